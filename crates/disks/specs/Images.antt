@@ -1,0 +1,34 @@
+-- What an image shows and does.
+use mathlib.Core.Path.{_≡_}
+use mathlib.Core.Bool.{cond}
+use Prim.Native.Nat.{ℕ, _<_}
+use lib.Dec.{ltb}
+use lib.ListN.{getD}
+use denote.Ref.{now}
+use Rattle.disks.specs.Values.{On, PastEnd}
+use Rattle.disks.specs.Meaning.{View, Content, Shown, ProperLaw, ReadLaw}
+use Rattle.disks.specs.Blocks.{whole-blocks, block-of}
+use Rattle.disks.specs.declared.image.Image.{Image}
+use Rattle.std.specs.declared.result.Result.the-variants.{Ok, Err}
+
+-- always on, and each face its block's only candidate
+abbrev pub view-of : Image → View
+view-of i = record {
+  size = whole-blocks (now (i .bytes));
+  height = 0;
+  state = On;
+  face = block-of (now (i .bytes));
+  candidate = λ k b. b ≡ block-of (now (i .bytes)) k;
+}
+
+-- its bytes are bytes
+abbrev pub Sound : Image → Type 0
+Sound i = (j : ℕ) → getD (now (i .bytes)) j 0 < 256
+
+-- a read changes nothing
+abbrev pub Reads : Image → ℕ → Shown → Image → Type 0
+Reads s k x t = (t ≡ s) × (x ≡ cond (ltb k (whole-blocks (now (s .bytes)))) (Ok (block-of (now (s .bytes)) k)) (Err PastEnd))
+
+-- an image is a reader, through whatever reads
+abbrev pub KeepsMeaning : Type 0
+KeepsMeaning = ProperLaw view-of Sound × ReadLaw view-of Sound Reads

@@ -1,0 +1,4 @@
+pub mod Values
+pub mod Meaning
+pub mod Blocks
+pub mod Images
