@@ -1,0 +1,7 @@
+mod Bits
+mod Fields
+mod Groups
+pub mod Looking
+mod Newest
+mod Round
+mod Tests

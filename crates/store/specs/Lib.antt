@@ -1,0 +1,6 @@
+pub mod Layout
+pub mod Bits
+pub mod Headers
+pub mod Log
+pub mod LookValues
+pub mod Looks
