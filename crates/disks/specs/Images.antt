@@ -1,6 +1,7 @@
 -- What an image shows and does.
 use mathlib.Core.Path.{_≡_}
 use mathlib.Core.Bool.{cond}
+use mathlib.Core.List.{List}
 use Prim.Native.Nat.{ℕ, _<_}
 use lib.Dec.{ltb}
 use lib.ListN.{getD}
@@ -11,15 +12,12 @@ use Rattle.disks.specs.Blocks.{whole-blocks, block-of}
 use Rattle.disks.specs.declared.image.Image.{Image}
 use Rattle.std.specs.declared.result.Result.the-variants.{Ok, Err}
 
--- always on, and each face its block's only candidate
+-- what bytes show: always on, and each face its block's only candidate
+abbrev pub bytes-view : List ℕ → View
+bytes-view bytes = record { size = whole-blocks bytes; height = 0; state = On; face = block-of bytes; candidate = λ k b. b ≡ block-of bytes k }
+
 abbrev pub view-of : Image → View
-view-of i = record {
-  size = whole-blocks (now (i .bytes));
-  height = 0;
-  state = On;
-  face = block-of (now (i .bytes));
-  candidate = λ k b. b ≡ block-of (now (i .bytes)) k;
-}
+view-of i = bytes-view (now (i .bytes))
 
 -- its bytes are bytes
 abbrev pub Sound : Image → Type 0

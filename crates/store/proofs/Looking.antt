@@ -310,3 +310,36 @@ never-past v a st e = go (fit (v .size)) e
 
 pub look-inside : {S : Type 0} (R : Reader.Ghosts S) (s t : S) (a : ℕ) (x : LookAnswer Content) → Looks (met R) s a x t → R .sound s → x ≡ Err (Disk PastEnd) → ⊥
 look-inside R s t a x l snd e = never-past (R .view s) a (R .view t .state) (sym (look-means R s t a x l snd .1 .answer) ∙ e)
+
+-- faces that keep below the size show the same
+pub answer-keeps : (v w : View) (a : ℕ) (st : StateValues) → Kept v w → FacesKeep v w → look-answer w a st ≡ look-answer v a st
+answer-keeps v w a st kept faces = ap at (kept .size) ∙ go (fit (v .size)) refl
+  where
+    at : ℕ → LookAnswer Content
+    at size = cond (fit size) (look-answer-by (found size (w .face) a) st) (Err UnfitSize)
+
+    block : (h : HeaderValues) (b : Bool) → ltb a (h .n) ≡ b → length (h .log) ≤ 32 → h .n ≡ v .size - 33 →
+        cond b (Ok (w .face (block-for (h .log) a))) (Err PastPlan) ≡ cond b (Ok (v .face (block-for (h .log) a))) (Err PastPlan)
+    block h true l few n = ap (λ (b : Content). Ok b) (faces (block-for (h .log) a) (block-within (h .log) a (h .n) (v .size) few (ltb-true a (h .n) l) n))
+    block h false l few n = refl
+
+    header : (h : LookAnswer HeaderValues) → header-of (v .size - 33) (unpacked (v .face 0)) ≡ h → at-address h (w .face) a ≡ at-address h (v .face) a
+    header (Ok h) e = let is = header-is (v .size - 33) (unpacked (v .face 0)) h e in block h (ltb a (h .n)) refl (log-fits (v .face 0) h (is .0)) (is .1)
+    header (Err x) e = refl
+
+    go : (b : Bool) → fit (v .size) ≡ b → cond b (look-answer-by (found (v .size) (w .face) a) st) (Err UnfitSize) ≡ cond b (look-answer-by (found (v .size) (v .face) a) st) (Err UnfitSize)
+    go true f =
+        let big = leb-true 34 (v .size) (and-parts _ _ f .0) in
+        let first : header-of (v .size - 33) (unpacked (w .face 0)) ≡ header-of (v .size - 33) (unpacked (v .face 0)) = ap (λ (b : Content). header-of (v .size - 33) (unpacked b)) (faces 0 (omega arith)) in
+        ap (λ (x : LookAnswer Content). look-answer-by x st) (ap (λ (h : LookAnswer HeaderValues). at-address h (w .face) a) first ∙ header _ refl)
+    go false f = refl
+
+-- a done answer is given by a reader that is on
+pub answer-on : (v : View) (a : ℕ) (st : StateValues) (b : Content) → Ok b ≡ look-answer v a st → st ≡ On
+answer-on v a st b e = go (fit (v .size)) st e
+  where
+    go : (f : Bool) (st : StateValues) → Ok b ≡ cond f (look-answer-by (found (v .size) (v .face) a) st) (Err UnfitSize) → st ≡ On
+    go true On e = refl
+    go true (Dark c) e = absurd (let z : _≡_ {A = ℕ} 0 1 = cc in omega arith)
+    go true (Dead c) e = absurd (let z : _≡_ {A = ℕ} 0 1 = cc in omega arith)
+    go false st e = absurd (let z : _≡_ {A = ℕ} 0 1 = cc in omega arith)

@@ -1,0 +1,4 @@
+pub mod Differences
+pub mod Outcomes
+pub mod Compares
+pub mod Lines

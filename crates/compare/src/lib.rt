@@ -1,0 +1,6 @@
+// The comparison of the plans of two stores, address by address.
+pub mod comparison;
+pub mod difference;
+pub mod images;
+pub mod report;
+pub mod stop;
