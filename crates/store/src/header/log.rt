@@ -1,4 +1,4 @@
-// Where the log keeps an address.
+// What a header says of the plan and of its log.
 ghost use mathlib.Core.Path.{_≡_};
 ghost use Prim.Native.Nat.{ℕ};
 ghost use Rattle.std.specs.Options.{valueOr};
@@ -11,6 +11,13 @@ impl Header {
         ensures { λ r. ⌜ r ≡ header-values (now (self .entry)) .n ⌝ }
     {
         self.n
+    }
+
+    // The addresses of log slots 1, 2 and so on.
+    pub fn log(&self) -> &[u16]
+        ensures { λ r. ⌜ now r ≡ header-values (now (self .entry)) .log ⌝ }
+    {
+        &self.addresses[0..self.count as usize]
     }
 
     // The newest log slot that holds the address.
