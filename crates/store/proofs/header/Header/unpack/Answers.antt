@@ -29,14 +29,6 @@ ghost-result c =
     let long : length xs ≡ 32 = search needs in
     (omega arith, (omega (arith, c .fits-bytes 3), (omega arith, ((λ i l. right i (omega arith) .named l), (blank-on _ _ xs right, tt)))))
 
-pub returns-then-bytes : need.returns-then-bytes
-returns-then-bytes c = end _ (c .told-bytes) (c .fits-bytes) _ (refused (c .args .bytes .now) (λ f. grind arith))
-
-pub returns-then-not-in-range : need.returns-then-not-in-range
-returns-then-not-in-range c =
-    let tail = last (c .args .bytes .now) (c .told-bytes) in
-    end _ (c .told-bytes) (c .fits-bytes) _ (refused (c .args .bytes .now) (λ f. grind arith))
-
 pub returns : need.returns
 returns c =
     let bs = c .args .bytes .now in
@@ -44,3 +36,11 @@ returns c =
     let f : WellFormed bs = record { mark-high = omega arith; mark-low = omega arith; layout = omega arith; few = omega arith; zero-bits = omega arith; fit = cc; rest = cc } in
     let named = λ (xs : List ℕ). Some (record { n = n-in bs; log = take (count-in bs) xs }) in
     end bs (c .told-bytes) (c .fits-bytes) _ (ap named (c .read-fields-addresses .ensures) ∙ sym (accepted bs f))
+
+pub returns-then-bytes : need.returns-then-bytes
+returns-then-bytes c = end _ (c .told-bytes) (c .fits-bytes) _ (refused (c .args .bytes .now) (λ f. grind arith))
+
+pub returns-then-not-in-range : need.returns-then-not-in-range
+returns-then-not-in-range c =
+    let tail = last (c .args .bytes .now) (c .told-bytes) in
+    end _ (c .told-bytes) (c .fits-bytes) _ (refused (c .args .bytes .now) (λ f. grind arith))
