@@ -79,11 +79,19 @@ fn compare_at<A: Reader, B: Reader>(
 {
     let mut old_block = [0u8; BLOCK_BYTES];
     let mut new_block = [0u8; BLOCK_BYTES];
-    if let Err(e) = look(old, address, &mut old_block) {
-        return Err(Stop::Refused(address, Side::Old, e));
+    if let Err(refusal) = look(old, address, &mut old_block) {
+        return Err(Stop::Refused {
+            address,
+            side: Side::Old,
+            refusal,
+        });
     }
-    if let Err(e) = look(new, address, &mut new_block) {
-        return Err(Stop::Refused(address, Side::New, e));
+    if let Err(refusal) = look(new, address, &mut new_block) {
+        return Err(Stop::Refused {
+            address,
+            side: Side::New,
+            refusal,
+        });
     }
     Ok(first_difference(address, &old_block, &new_block))
 }

@@ -11,7 +11,11 @@ pub enum Side {
 #[derive(Clone, Copy, Debug)]
 pub enum Stop {
     // That side's look at the address was refused.
-    Refused(u16, Side, LookRefusal),
+    Refused {
+        address: u16,
+        side: Side,
+        refusal: LookRefusal,
+    },
     // No memory for the list: nothing was looked up.
     NoMemory,
 }

@@ -13,7 +13,7 @@ use Rattle.std.proofs.shelf.Lists.{length-drop, length-take-le, getD-take, getD
 use Rattle.disks.specs.Values.{PastEnd}
 use Rattle.disks.specs.Meaning.{View, Shown, Whole, Unchanged, ProperLaw, ReadLaw}
 use Rattle.disks.specs.Blocks.{whole-blocks, block-of}
-use Rattle.disks.specs.Images.{view-of, Sound, Reads}
+use Rattle.disks.specs.Images.{view-of, Sound, Reads, KeepsMeaning}
 use Rattle.disks.specs.declared.image.Image.{Image}
 use Rattle.disks.proofs.Views.{same}
 use Rattle.std.specs.declared.result.Result.the-variants.{Ok, Err}
@@ -61,3 +61,6 @@ image-reading s t k x h snd = (
 -- the answer of a read within the size, and of one past it
 pub read-within : (s : Image) (k : ℕ) (b : List ℕ) → k < whole-blocks (now (s .bytes)) → b ≡ block-of (now (s .bytes)) k → Reads s k (Ok b) s
 read-within s k b lt e = (refl, ap (λ (c : List ℕ). Ok c) e ∙ sym (ap (answer s k) (lt-ltb k (whole-blocks (now (s .bytes))) lt)))
+
+pub image-keeps : KeepsMeaning
+image-keeps = record { proper = image-proper; reading = image-reading; stand = λ i j lt. refl; settled = λ i j b lt e. e }

@@ -7,7 +7,7 @@ use lib.Dec.{ltb}
 use lib.ListN.{getD}
 use denote.Ref.{now}
 use Rattle.disks.specs.Values.{On, PastEnd}
-use Rattle.disks.specs.Meaning.{View, Content, Shown, ProperLaw, ReadLaw}
+use Rattle.disks.specs.Meaning.{View, Content, Shown, FacesStand, NothingWaits, ProperLaw, ReadLaw}
 use Rattle.disks.specs.Blocks.{whole-blocks, block-of}
 use Rattle.disks.specs.declared.image.Image.{Image}
 use Rattle.std.specs.declared.result.Result.the-variants.{Ok, Err}
@@ -27,6 +27,9 @@ Sound i = (j : ℕ) → getD (now (i .bytes)) j 0 < 256
 abbrev pub Reads : Image → ℕ → Shown → Image → Type 0
 Reads s k x t = (t ≡ s) × (x ≡ cond (ltb k (whole-blocks (now (s .bytes)))) (Ok (block-of (now (s .bytes)) k)) (Err PastEnd))
 
--- an image is a reader, through whatever reads
-abbrev pub KeepsMeaning : Type 0
-KeepsMeaning = ProperLaw view-of Sound × ReadLaw view-of Sound Reads
+-- an image is a reader, and each face its block's only candidate
+pub record KeepsMeaning : Type 0 where
+  pub proper : ProperLaw view-of Sound
+  pub reading : ReadLaw view-of Sound Reads
+  pub stand : (i : Image) → FacesStand (view-of i)
+  pub settled : (i : Image) → NothingWaits (view-of i)

@@ -72,13 +72,13 @@ FacesKeep v w = (j : ℕ) → j < v .size → w .face j ≡ v .face j
 abbrev pub NoneGained : View → View → Type 0
 NoneGained v w = (j : ℕ) (b : Content) → j < v .size → w .candidate j b → v .candidate j b
 
--- nothing waits: no block has a candidate other than its face
-abbrev pub NothingWaits : View → Type 0
-NothingWaits v = (j : ℕ) (b : Content) → j < v .size → v .candidate j b → b ≡ v .face j
-
 -- each face is a candidate of its block
 abbrev pub FacesStand : View → Type 0
 FacesStand v = (j : ℕ) → j < v .size → v .candidate j (v .face j)
+
+-- nothing waits: no block has a candidate other than its face
+abbrev pub NothingWaits : View → Type 0
+NothingWaits v = (j : ℕ) (b : Content) → j < v .size → v .candidate j b → b ≡ v .face j
 
 -- size and height never change
 pub record Kept (v w : View) : Type 0 where

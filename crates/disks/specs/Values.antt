@@ -46,10 +46,6 @@ refusal-values (refusal.Lost c) = IsLost (cause-values c)
 abbrev pub Answer : Type 0 → Type 0
 Answer X = Result X RefusalValues
 
-abbrev pub answer-values : {X : Type 0} → Result X Refusal → Answer X
-answer-values (Ok x) = Ok x
-answer-values (Err e) = Err (refusal-values e)
-
 -- the values of a cause in a row
 abbrev pub in-a-row : CauseValues → List ℕ
 in-a-row c = c .call ∷ (c .block ∷ c .trail)
@@ -67,8 +63,8 @@ meaning-of (IsDark c) = codes "disk dark"
 meaning-of (IsLost c) = codes "lost: disk dead"
 
 -- number and values say all: refusals that differ, differ there
-abbrev pub Tells-apart : Type 0
-Tells-apart = (x y : RefusalValues) → numbered x ≡ numbered y → x ≡ y
+abbrev pub TellsApart : Type 0
+TellsApart = (x y : RefusalValues) → numbered x ≡ numbered y → x ≡ y
 
 -- the answer that a state gives: done with x if on, else dark or lost with the state's cause
 abbrev pub answer-by : {X : Type 0} → X → StateValues → Answer X

@@ -1,6 +1,6 @@
 // The answers of a reader or a disk that are not done.
 ghost use mathlib.Core.Path.{_≡_};
-ghost use Rattle.disks.specs.Values.{refusal-values, numbered, meaning-of, Tells-apart};
+ghost use Rattle.disks.specs.Values.{refusal-values, numbered, meaning-of, TellsApart};
 use crate::cause::Cause;
 use crate::cause::CauseDebug;
 
@@ -17,7 +17,7 @@ pub enum Refusal {
 impl Refusal {
     pub fn number(&self) -> u8
         ensures value { λ r. ⌜ r ≡ numbered (refusal-values (now (self .entry))) .0 ⌝ }
-        ensures apart { λ _. ⌜ Tells-apart ⌝ }
+        ensures apart { λ _. ⌜ TellsApart ⌝ }
     {
         match self {
             Refusal::PastEnd => 1,

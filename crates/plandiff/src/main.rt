@@ -53,11 +53,12 @@ fn run(rt: &LibcRuntime) -> Result<String, Failure> {
     let new = read_file(rt, new_file.as_str())?;
     match compare_images(heap, &old, &new) {
         Ok(comparison) => Ok(report(heap, &comparison)?),
-        Err(Stop::Refused(_, Side::Old, e)) => {
-            Err(Failure::Line(refusal_line(heap, old_file.as_str(), &e)?))
-        }
-        Err(Stop::Refused(_, Side::New, e)) => {
-            Err(Failure::Line(refusal_line(heap, new_file.as_str(), &e)?))
+        Err(Stop::Refused { side, refusal, .. }) => {
+            let file = match side {
+                Side::Old => old_file.as_str(),
+                Side::New => new_file.as_str(),
+            };
+            Err(Failure::Line(refusal_line(heap, file, &refusal)?))
         }
         Err(Stop::NoMemory) => Err(Failure::NoMemory),
     }
