@@ -2,3 +2,4 @@ pub mod Values
 pub mod Meaning
 pub mod Blocks
 pub mod Images
+pub mod Piles

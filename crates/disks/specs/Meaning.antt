@@ -1,9 +1,10 @@
 -- What a reader means, over the face and the candidates of each block.
 use mathlib.Core.Path.{_≡_}
 use mathlib.Core.List.{List}
+use mathlib.Core.Logic.{_⊎_}
 use Prim.Native.Nat.{ℕ, _≤_, _<_}
 use lib.ListN.{length, getD}
-use Rattle.disks.specs.Values.{CauseValues, StateValues, On, Dark, Dead, RefusalValues, PastEnd, Answer, refusal-values, answer-by}
+use Rattle.disks.specs.Values.{CauseValues, StateValues, On, Dark, Dead, RefusalValues, PastEnd, IsLost, Answer, refusal-values, answer-by}
 use Rattle.disks.specs.declared.refusal.Refusal.{Refusal}
 use Rattle.std.specs.declared.result.Result.{Result}
 use Rattle.std.specs.declared.result.Result.the-variants.{Ok, Err}
@@ -38,6 +39,12 @@ shown (Err e) b = Err (refusal-values e)
 abbrev pub Untouched : {E : Type 0} → Result Unit E → Content → Content → Type 0
 Untouched (Ok u) p q = Unit {0}
 Untouched (Err e) p q = q ≡ p
+
+-- on or dark
+abbrev pub Living : StateValues → Type 0
+Living On = Unit {0}
+Living (Dark c) = Unit {0}
+Living (Dead c) = ⊥
 
 -- dark or dead
 abbrev pub Off : StateValues → Type 0
@@ -100,6 +107,31 @@ pub record ReadOn (v : View) (k : ℕ) (x : Shown) (w : View) : Type 0 where
   pub faces : w .state ≡ On → FacesKeep v w
   pub gained : NoneGained v w
 
+-- Of a write too: if it is done, face k is the new content, and no candidate is gained but that at k.
+pub record WriteOn (v : View) (k : ℕ) (b : Content) (r : Answer Unit) (w : View) : Type 0 where
+  pub kept : Kept v w
+  pub answer : r ≡ answer-by tt (w .state)
+  pub face : w .state ≡ On → w .face k ≡ b
+  pub others : w .state ≡ On → (j : ℕ) → j < v .size → (j ≡ k → ⊥) → w .face j ≡ v .face j
+  pub gained : (j : ℕ) (c : Content) → j < v .size → w .candidate j c → v .candidate j c ⊎ ((j ≡ k) × (c ≡ b))
+
+-- Of a barrier: if it is done, faces keep, and each is its block's only candidate.
+pub record BarrierOn (v : View) (r : Answer Unit) (w : View) : Type 0 where
+  pub kept : Kept v w
+  pub answer : r ≡ answer-by tt (w .state)
+  pub faces : w .state ≡ On → FacesKeep v w
+  pub stand : w .state ≡ On → FacesStand w
+  pub settled : w .state ≡ On → NothingWaits w
+  pub gained : NoneGained v w
+
+-- Of a restart of a living disk: if it is done, each face is one of that block's earlier candidates, and there is no other now.
+pub record RestartOn (v : View) (r : Answer Unit) (w : View) : Type 0 where
+  pub kept : Kept v w
+  pub answer : r ≡ answer-by tt (w .state)
+  pub picked : w .state ≡ On → (j : ℕ) → j < v .size → v .candidate j (w .face j)
+  pub settled : w .state ≡ On → NothingWaits w
+  pub gained : NoneGained v w
+
 -- A call on block k, where x is what a done one carries: refused past the size, then by the state; else as the rule says.
 pub record AtBlock {X : Type 0} (v : View) (k : ℕ) (x : X) (r : Answer X) (w : View) (rule : Type 0) : Type 0 where
   pub past : v .size ≤ k → (r ≡ Err PastEnd) × Unchanged v w
@@ -109,7 +141,18 @@ pub record AtBlock {X : Type 0} (v : View) (k : ℕ) (x : X) (r : Answer X) (w :
 abbrev pub ReadMeans : View → ℕ → Shown → View → Type 0
 ReadMeans v k x w = AtBlock v k (v .face k) x w (ReadOn v k x w)
 
--- The laws of a reader, over its ghost members.
+abbrev pub WriteMeans : View → ℕ → Content → Answer Unit → View → Type 0
+WriteMeans v k b r w = AtBlock v k tt r w (WriteOn v k b r w)
+
+pub record BarrierMeans (v : View) (r : Answer Unit) (w : View) : Type 0 where
+  pub off : Off (v .state) → (r ≡ answer-by tt (v .state)) × Unchanged v w
+  pub on : v .state ≡ On → BarrierOn v r w
+
+pub record RestartMeans (v : View) (r : Answer Unit) (w : View) : Type 0 where
+  pub dead : (c : CauseValues) → v .state ≡ Dead c → (r ≡ Err (IsLost c)) × Unchanged v w
+  pub living : Living (v .state) → RestartOn v r w
+
+-- The laws of a reader and of a disk, over their ghost members.
 module _ {S : Type 0} (view : S → View) (sound : S → Type 0) where
   -- a sound reader is left sound, and the call means what its rule says
   abbrev pub Means : S → S → (View → View → Type 0) → Type 0
@@ -120,3 +163,13 @@ module _ {S : Type 0} (view : S → View) (sound : S → Type 0) where
 
   abbrev pub ReadLaw : (S → ℕ → Shown → S → Type 0) → Type 0
   ReadLaw reads = (s t : S) (k : ℕ) (x : Shown) → reads s k x t → Means s t (λ v w. ReadMeans v k x w)
+
+  -- what is written is whole
+  abbrev pub WriteLaw : (S → ℕ → Content → Answer Unit → S → Type 0) → Type 0
+  WriteLaw writes = (s t : S) (k : ℕ) (b : Content) (r : Answer Unit) → Whole b → writes s k b r t → Means s t (λ v w. WriteMeans v k b r w)
+
+  abbrev pub BarrierLaw : (S → Answer Unit → S → Type 0) → Type 0
+  BarrierLaw barriers = (s t : S) (r : Answer Unit) → barriers s r t → Means s t (λ v w. BarrierMeans v r w)
+
+  abbrev pub RestartLaw : (S → Answer Unit → S → Type 0) → Type 0
+  RestartLaw restarts = (s t : S) (r : Answer Unit) → restarts s r t → Means s t (λ v w. RestartMeans v r w)

@@ -46,6 +46,10 @@ refusal-values (refusal.Lost c) = IsLost (cause-values c)
 abbrev pub Answer : Type 0 → Type 0
 Answer X = Result X RefusalValues
 
+abbrev pub answer-values : {X : Type 0} → Result X Refusal → Answer X
+answer-values (Ok x) = Ok x
+answer-values (Err e) = Err (refusal-values e)
+
 -- the values of a cause in a row
 abbrev pub in-a-row : CauseValues → List ℕ
 in-a-row c = c .call ∷ (c .block ∷ c .trail)

@@ -1,0 +1,2 @@
+// Bench disks: disks in memory that fail by a schedule.
+pub mod schedule;
