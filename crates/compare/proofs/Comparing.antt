@@ -1,27 +1,38 @@
 -- What a comparison means, from what each of its looks means.
 use mathlib.Core.Path.{_≡_, refl, sym, ap, subst, _∙_}
+use mathlib.Core.Bool.{Bool, true, false, cond}
 use mathlib.Core.Logic.{inl, inr}
 use mathlib.Core.List.{List, [], _++_}
-use Prim.Native.Nat.{ℕ, zero, suc, _+_, _<_}
+use Prim.Native.Nat.{ℕ, zero, suc, _+_, _-_, _<_, min}
 use native.Mathlib.Omega.{arith}
 use Rattle.disks.specs.Values.{StateValues, On}
 use Rattle.disks.specs.Meaning.{View, Content, Kept, FacesKeep, NoneGained}
 use Rattle.disks.specs.declared.reader.Reader
-use Rattle.std.proofs.shelf.Tests.{cases-lt}
+use Rattle.std.proofs.shelf.Tests.{cases-lt, leb-true, and-parts}
+use Rattle.std.specs.Options.{valueOr}
 use Rattle.std.specs.Vec.{listOf}
 use Rattle.std.specs.declared.option.Option.{Option}
+use Rattle.std.specs.declared.option.Option.the-variants.{Some, None}
 use Rattle.std.specs.declared.result.Result.{Result}
 use Rattle.std.specs.declared.result.Result.the-variants.{Ok, Err}
 use Rattle.store.specs.LookValues.{LookAnswer, LookRefusalValues}
-use Rattle.store.specs.Looks.{Looks, look-answer}
+use Rattle.store.specs.Looks.{fit, Looks, look-answer}
 use Rattle.store.proofs.Looking.{answer-keeps, answer-on}
 use Rattle.compare.specs.Differences.{difference, differences}
-use Rattle.compare.specs.Outcomes.{StopValues, Refused, NoMemory, Outcome}
+use Rattle.compare.specs.Outcomes.{StopValues, Refused, Outcome}
 use Rattle.compare.specs.Compares.{shared, ComparesAt, Compared, Compares, LooksMeant, shows, block-in, plan, ShowsAll, Answers, Left, Meant, CompareMeans}
 use Rattle.compare.specs.declared.difference.Difference.{Difference}
 use Rattle.compare.proofs.Turns.{compares-to}
 use Rattle.compare.specs.declared.stop.Side.{Side}
 use Rattle.compare.specs.declared.stop.Side.the-variants.{Old, New}
+
+-- one address at least is looked up
+shared-some : (m n : ℕ) → 0 < shared m n
+shared-some m n = go (fit (min m n)) refl
+  where
+    go : (b : Bool) → fit (min m n) ≡ b → 0 < valueOr (cond b (Some (min m n - 33)) None) 1
+    go true f = let big = leb-true 34 (min m n) (and-parts _ _ f .0) in omega arith
+    go false f = omega arith
 
 -- done looks leave size, height and faces, and gain no candidate
 record Steady (v w : View) : Type 0 where
@@ -119,7 +130,7 @@ module _ {A B : Type 0} (R₀ : Reader.Ghosts A) (R₁ : Reader.Ghosts B) (s : A
         p .0,
         subst (R₁ .sound) (sym stays) (w .sound₁),
         record {
-          answer = subst (λ (x : StopValues). Answers (shared (R₀ .view s .size) (R₁ .view t .size)) (R₀ .view s) (R₁ .view t) (Err x) (R₀ .view s′ .state) (R₁ .view t′ .state)) (sym is) (lt, w .all₀, w .all₁, p .2);
+          answer = subst (λ (x : StopValues). Answers (shared (R₀ .view s .size) (R₁ .view t .size)) (R₀ .view s) (R₁ .view t) (Err x) (R₀ .view s′ .state) (R₁ .view t′ .state)) (sym is) (lt, w .all₀, w .all₁, p .2, λ some. ap (λ (u : B). R₁ .view u .state) stays ∙ w .on some .1);
           old = p .1;
           new = subst (λ (u : B). Left (R₁ .view t) (R₁ .view u)) (sym stays) (left-steady (R₁ .view t) (R₁ .view k) (w .new));
         },
@@ -132,7 +143,7 @@ module _ {A B : Type 0} (R₀ : Reader.Ghosts A) (R₁ : Reader.Ghosts B) (s : A
         p .0,
         q .0,
         record {
-          answer = subst (λ (x : StopValues). Answers (shared (R₀ .view s .size) (R₁ .view t .size)) (R₀ .view s) (R₁ .view t) (Err x) (R₀ .view s′ .state) (R₁ .view t′ .state)) (sym is) (lt, all, w .all₁, q .2);
+          answer = subst (λ (x : StopValues). Answers (shared (R₀ .view s .size) (R₁ .view t .size)) (R₀ .view s) (R₁ .view t) (Err x) (R₀ .view s′ .state) (R₁ .view t′ .state)) (sym is) (lt, all, w .all₁, q .2, p .2);
           old = left-steady (R₀ .view s) (R₀ .view s′) (p .1);
           new = q .1;
         },
@@ -143,7 +154,7 @@ module _ {A B : Type 0} (R₀ : Reader.Ghosts A) (R₁ : Reader.Ghosts B) (s : A
       R₀ .sound s′ × R₁ .sound t′ × Meant (R₀ .view s) (R₁ .view t) x (R₀ .view s′) (R₁ .view t′)
   compare-means (Ok ds) s′ t′ c =
       let w = went (shared (R₀ .view s .size) (R₁ .view t .size)) ds s′ t′ c in
-      let on = w .on (omega arith) in (
+      let on = w .on (shared-some (R₀ .view s .size) (R₁ .view t .size)) in (
         w .sound₀,
         w .sound₁,
         record {
@@ -153,15 +164,6 @@ module _ {A B : Type 0} (R₀ : Reader.Ghosts A) (R₁ : Reader.Ghosts B) (s : A
         },
       )
   compare-means (Err (Refused a side e)) s′ t′ (lt, m, k, es, before, at) = refused a es m s′ k t′ (Refused a side e) lt (went a es m k before) at
-  compare-means (Err NoMemory) s′ t′ (f, g) = (
-    subst (R₀ .sound) (sym f) snd₀,
-    subst (R₁ .sound) (sym g) snd₁,
-    record {
-      answer = tt;
-      old = subst (λ (u : A). Left (R₀ .view s) (R₀ .view u)) (sym f) (left-steady (R₀ .view s) (R₀ .view s) (steady-same (R₀ .view s)));
-      new = subst (λ (u : B). Left (R₁ .view t) (R₁ .view u)) (sym g) (left-steady (R₁ .view t) (R₁ .view t) (steady-same (R₁ .view t)));
-    },
-  )
 
 -- The comparison of k addresses, where sizes m and n were asked for: its steps, and its meaning.
 pub compares-meant : {A B : Type 0} (R₀ : Reader.Ghosts A) (R₁ : Reader.Ghosts B) (s s′ : A) (t t′ : B) (x : Outcome (List Difference)) (m n k : ℕ) →

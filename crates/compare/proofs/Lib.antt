@@ -1,3 +1,4 @@
 mod Blocks
 mod Comparing
+mod Listing
 mod Turns

@@ -10,7 +10,7 @@ use Rattle.std.specs.declared.option.Option.{Option}
 use Rattle.std.specs.declared.result.Result.{Result}
 use Rattle.std.specs.declared.result.Result.the-variants.{Ok, Err}
 use Rattle.store.specs.LookValues.{LookAnswer, LookRefusalValues}
-use Rattle.compare.specs.Outcomes.{StopValues, Refused, NoMemory, Outcome}
+use Rattle.compare.specs.Outcomes.{StopValues, Refused, Outcome}
 use Rattle.compare.specs.Compares.{compared-at, ComparesNew, ComparesAt, Compared, Compares}
 use Rattle.compare.specs.declared.difference.Difference.{Difference}
 use Rattle.compare.specs.declared.stop.Side.{Side}
@@ -47,4 +47,3 @@ module _ {A B : Type 0} (Look₀ Fewer₀ : A → ℕ → LookAnswer Content →
   pub compares-to : (n : ℕ) (s s′ : A) (t t′ : B) (x : Outcome (List Difference)) → Compares Look₀ Look₁ n s t x s′ t′ → Compares Fewer₀ Fewer₁ n s t x s′ t′
   compares-to n s s′ t t′ (Ok ds) c = compared-to n s s′ t t′ ds c
   compares-to n s s′ t t′ (Err (Refused a side e)) (lt, m, k, es, before, at) = (lt, m, k, es, compared-to a s m t k es before, at-to a m s′ k t′ (Err (Refused a side e)) at)
-  compares-to n s s′ t t′ (Err NoMemory) c = c

@@ -2,28 +2,29 @@
 use mathlib.Core.Path.{_≡_}
 use mathlib.Core.Bool.{cond}
 use mathlib.Core.List.{List, [], _++_}
-use Prim.Native.Nat.{ℕ, zero, suc, _-_, _<_, min, max}
+use Prim.Native.Nat.{ℕ, zero, suc, _-_, _<_, min}
 use lib.Dec.{ltb}
 use Rattle.disks.specs.Values.{StateValues, On}
 use Rattle.disks.specs.Meaning.{View, Content, Kept, FacesKeep, NoneGained, Means}
 use Rattle.disks.specs.declared.reader.Reader
+use Rattle.std.specs.Options.{valueOr}
 use Rattle.std.specs.Vec.{listOf}
 use Rattle.std.specs.declared.option.Option.{Option}
 use Rattle.std.specs.declared.option.Option.the-variants.{Some, None}
 use Rattle.std.specs.declared.result.Result.{Result}
 use Rattle.std.specs.declared.result.Result.the-variants.{Ok, Err}
 use Rattle.store.specs.LookValues.{LookAnswer}
-use Rattle.store.specs.Looks.{Looks, LookMeans, look-answer}
+use Rattle.store.specs.Looks.{plan-of, Looks, LookMeans, look-answer}
 use Rattle.compare.specs.Differences.{difference, differences}
-use Rattle.compare.specs.Outcomes.{StopValues, Refused, NoMemory, Outcome}
+use Rattle.compare.specs.Outcomes.{StopValues, Refused, Outcome}
 use Rattle.compare.specs.declared.comparison.Only.{Only}
 use Rattle.compare.specs.declared.difference.Difference.{Difference}
 use Rattle.compare.specs.declared.stop.Side.{Side}
 use Rattle.compare.specs.declared.stop.Side.the-variants.{Old, New}
 
--- how many addresses two stores of these sizes share; one is looked up in any case
+-- how many addresses two stores of these sizes share; where one is no store, one address is looked up all the same
 abbrev pub shared : ℕ → ℕ → ℕ
-shared m n = max (min m n - 33) 1
+shared m n = valueOr (plan-of (min m n)) 1
 
 -- the addresses that the longer one alone has
 abbrev pub lone : ℕ → ℕ → Option Only
@@ -58,7 +59,6 @@ module _ {A B : Type 0} (Look₀ : A → ℕ → LookAnswer Content → A → Ty
   Compares n s t (Ok ds) s′ t′ = Compared n s t ds s′ t′
   Compares n s t (Err (Refused a side e)) s′ t′ =
       (a < n) × (m : A) × (k : B) × (es : List Difference) × Compared a s t es m k × ComparesAt a m k (Err (Refused a side e)) s′ t′
-  Compares n s t (Err NoMemory) s′ t′ = (s′ ≡ s) × (t′ ≡ t)
 
 -- a look by its steps and its meaning
 abbrev pub LooksMeant : {S : Type 0} → Reader.Ghosts S → S → ℕ → LookAnswer Content → S → Type 0
@@ -84,9 +84,8 @@ ShowsAll n v = (a : ℕ) → a < n → shows v a ≡ Ok (plan v a)
 -- what the answer says of both stores, by the faces before and the states after
 abbrev pub Answers : ℕ → View → View → Outcome (List Difference) → StateValues → StateValues → Type 0
 Answers n v w (Ok ds) st₀ st₁ = ShowsAll n v × ShowsAll n w × (ds ≡ differences n (plan v) (plan w)) × (st₀ ≡ On) × (st₁ ≡ On)
-Answers n v w (Err (Refused a Old e)) st₀ st₁ = (a < n) × ShowsAll a v × ShowsAll a w × (Err e ≡ look-answer v a st₀)
-Answers n v w (Err (Refused a New e)) st₀ st₁ = (a < n) × ShowsAll (suc a) v × ShowsAll a w × (Err e ≡ look-answer w a st₁)
-Answers n v w (Err NoMemory) st₀ st₁ = Unit {0}
+Answers n v w (Err (Refused a Old e)) st₀ st₁ = (a < n) × ShowsAll a v × ShowsAll a w × (Err e ≡ look-answer v a st₀) × (0 < a → st₁ ≡ On)
+Answers n v w (Err (Refused a New e)) st₀ st₁ = (a < n) × ShowsAll (suc a) v × ShowsAll a w × (Err e ≡ look-answer w a st₁) × (st₀ ≡ On)
 
 -- what looks leave of a reader
 pub record Left (v w : View) : Type 0 where
@@ -94,6 +93,7 @@ pub record Left (v w : View) : Type 0 where
   pub faces : w .state ≡ On → FacesKeep v w
   pub gained : NoneGained v w
 
+-- what a comparison says, and what it leaves of both readers
 pub record Meant (v w : View) (x : Outcome (List Difference)) (v′ w′ : View) : Type 0 where
   pub answer : Answers (shared (v .size) (w .size)) v w x (v′ .state) (w′ .state)
   pub old : Left v v′

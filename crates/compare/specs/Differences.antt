@@ -1,10 +1,11 @@
 -- Where two blocks differ first, and the differences of two plans.
 use mathlib.Core.Path.{_≡_}
 use mathlib.Core.Bool.{cond}
+use mathlib.Core.Logic.{_⊎_}
 use mathlib.Core.List.{List, [], _∷_, _++_}
 use Prim.Native.Nat.{ℕ, zero, suc, _<_}
 use lib.Dec.{eqb}
-use lib.ListN.{getD, take}
+use lib.ListN.{length, getD, take}
 use Rattle.disks.specs.Meaning.{Content}
 use Rattle.std.specs.Vec.{listOf}
 use Rattle.std.specs.declared.option.Option.{Option}
@@ -35,3 +36,13 @@ FirstDifference a b c (Some d) = DiffersAt a b c d
 abbrev pub differences : ℕ → (ℕ → Content) → (ℕ → Content) → List Difference
 differences zero p q = []
 differences (suc a) p q = differences a p q ++ listOf (difference a 0 (p a) (q a))
+
+-- an address is listed
+abbrev pub Listed : ℕ → List Difference → Type 0
+Listed a [] = ⊥
+Listed a (d ∷ ds) = (d .address ≡ a) ⊎ Listed a ds
+
+-- of blocks of one length: an address is listed exactly if its blocks differ
+pub record ListsExactly : Type 0 where
+  pub differ : (n : ℕ) (p q : ℕ → Content) (a : ℕ) → Listed a (differences n p q) → (a < n) × (p a ≡ q a → ⊥)
+  pub listed : (n : ℕ) (p q : ℕ → Content) (a : ℕ) → a < n → length (p a) ≡ length (q a) → (p a ≡ q a → ⊥) → Listed a (differences n p q)

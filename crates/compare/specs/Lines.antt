@@ -1,4 +1,4 @@
--- The text of a comparison, as bytes; each line ends with a line feed.
+-- The text of a comparison, as bytes: lines that each end with a line feed.
 use mathlib.Core.List.{List, [], _++_}
 use Prim.Native.Nat.{ℕ}
 use lib.Chars.{codes}
@@ -8,6 +8,7 @@ use Rattle.std.specs.Written.{decimal}
 use Rattle.std.specs.declared.option.Option.{Option}
 use Rattle.std.specs.declared.option.Option.the-variants.{Some, None}
 use Rattle.store.specs.LookValues.{LookRefusalValues, look-numbered, look-meaning}
+use Rattle.compare.specs.Outcomes.{StopValues, Refused}
 use Rattle.compare.specs.declared.comparison.Comparison.{Comparison}
 use Rattle.compare.specs.declared.comparison.Only.{Only}
 use Rattle.compare.specs.declared.difference.Difference.{Difference}
@@ -40,6 +41,15 @@ summary-line compared differ = decimal compared ++ (codes " compared, " ++ (deci
 abbrev pub report-text : Comparison → List ℕ
 report-text c = (difference-lines (vec-items (c .differences)) ++ only-lines (c .only)) ++ summary-line (c .compared) (vec-len (c .differences))
 
--- the file, the refusal's number and its meaning
+-- The lines for standard error, without their line feed: plandiff, the file, and the refusal's number and meaning
 abbrev pub refusal-text : List ℕ → LookRefusalValues → List ℕ
 refusal-text file e = codes "plandiff: " ++ (file ++ (codes ": " ++ (decimal (look-numbered e .0) ++ (codes ": " ++ look-meaning e))))
+
+-- the file of the side that refused
+abbrev pub stop-text : List ℕ → List ℕ → StopValues → List ℕ
+stop-text old-file new-file (Refused a Old e) = refusal-text old-file e
+stop-text old-file new-file (Refused a New e) = refusal-text new-file e
+
+-- plandiff, the file that cannot be read, and the reason
+abbrev pub unreadable-text : List ℕ → List ℕ → List ℕ
+unreadable-text file reason = codes "plandiff: " ++ (file ++ (codes ": cannot be read: " ++ reason))

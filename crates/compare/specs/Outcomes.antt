@@ -12,20 +12,19 @@ use Rattle.compare.specs.declared.comparison.Comparison.{Comparison}
 use Rattle.compare.specs.declared.difference.Difference.{Difference}
 use Rattle.compare.specs.declared.stop.Side.{Side}
 use Rattle.compare.specs.declared.stop.Stop.{Stop}
-use Rattle.compare.specs.declared.stop.Stop.the-variants as stop
 
--- the refusal that ended a comparison: at an address, of a side; or no memory for the list
+-- the refusal that ended a comparison: at an address, of a side
 pub data StopValues : Type 0 where
   Refused : ℕ → Side → LookRefusalValues → StopValues
-  NoMemory : StopValues
 
 abbrev pub stop-values : Stop → StopValues
-stop-values (stop.Refused a side e) = Refused a side (look-refusal-values e)
-stop-values stop.NoMemory = NoMemory
+stop-values s = Refused (s .address) (s .side) (look-refusal-values (s .refusal))
 
+-- done with an x, or stopped
 abbrev pub Outcome : Type 0 → Type 0
 Outcome X = Result X StopValues
 
+-- what a comparison, its list, and one address of it came to
 abbrev pub outcome : Result Comparison Stop → Outcome (List Difference)
 outcome (Ok c) = Ok (vec-items (c .differences))
 outcome (Err e) = Err (stop-values e)

@@ -1,17 +1,20 @@
 // Each address of two plans, looked up in both.
 ghost use mathlib.Core.Path.{_≡_};
+ghost use Prim.Native.Nat.{_≤_};
 ghost use Rattle.std.specs.Vec.{made};
 ghost use Rattle.store.specs.Looks.{Looks};
+ghost use Rattle.compare.specs.Differences.{ListsExactly};
 ghost use Rattle.compare.specs.Outcomes.{outcome, list-outcome, turn-outcome};
 ghost use Rattle.compare.specs.Compares.{shared, lone, LooksMeant, ComparesAt, Compares, CompareMeans};
 use crate::difference::Difference;
 use crate::difference::first_difference;
+use crate::room::Room;
 use crate::stop::Side;
 use crate::stop::Stop;
 use disks::block::BLOCK_BYTES;
 use disks::reader::Reader;
-use std::alloc::Global;
 use store::look::look;
+use store::look::plan_size;
 
 // The addresses that the longer plan alone has.
 #[derive(Clone, Copy)]
@@ -32,18 +35,19 @@ pub struct Comparison {
 
 // Looks up each address that both plans have, in the old store and then in the new one.
 pub fn compare<A: Reader, B: Reader>(
-    heap: Global,
+    room: Room,
     old: &mut A,
     new: &mut B,
 ) -> Result<Comparison, Stop>
     ensures steps { λ r. ⌜ Compares (Looks A·Reader) (Looks B·Reader) (shared (A·Reader .view (now (old .entry)) .size) (B·Reader .view (now (new .entry)) .size)) (now (old .entry)) (now (new .entry)) (outcome r) (now (old .exit)) (now (new .exit)) ⌝ }
     ensures means { λ r. ⌜ CompareMeans A·Reader B·Reader (now (old .entry)) (now (new .entry)) (outcome r) (now (old .exit)) (now (new .exit)) ⌝ }
+    ensures lists { λ _. ⌜ ListsExactly ⌝ }
     ensures counts { λ r. ⌜ made r (λ c. (c .compared ≡ shared (A·Reader .view (now (old .entry)) .size) (B·Reader .view (now (new .entry)) .size)) × (c .only ≡ lone (A·Reader .view (now (old .entry)) .size) (B·Reader .view (now (new .entry)) .size))) ⌝ }
 {
     let old_size = old.size();
     let new_size = new.size();
     let compared = shared_addresses(old_size, new_size);
-    let differences = list_differences(heap, old, new, compared)?;
+    let differences = list_differences(room, old, new, compared)?;
     Ok(Comparison {
         compared,
         differences,
@@ -52,16 +56,17 @@ pub fn compare<A: Reader, B: Reader>(
 }
 
 fn list_differences<A: Reader, B: Reader>(
-    heap: Global,
+    room: Room,
     old: &mut A,
     new: &mut B,
     addresses: u16,
 ) -> Result<Vec<Difference>, Stop>
+    requires { ⌜ addresses ≤ 4096 ⌝ }
     ensures { λ r. ⌜ Compares (LooksMeant A·Reader) (LooksMeant B·Reader) addresses (now (old .entry)) (now (new .entry)) (list-outcome r) (now (old .exit)) (now (new .exit)) ⌝ }
 {
-    let Ok(mut differences) = Vec::with_capacity(heap, addresses as usize) else {
-        return Err(Stop::NoMemory);
-    };
+    let Room {
+        list: mut differences,
+    } = room;
     for address in 0..addresses {
         if let Some(difference) = compare_at(old, new, address)? {
             differences.push_reserved(difference);
@@ -80,14 +85,14 @@ fn compare_at<A: Reader, B: Reader>(
     let mut old_block = [0u8; BLOCK_BYTES];
     let mut new_block = [0u8; BLOCK_BYTES];
     if let Err(refusal) = look(old, address, &mut old_block) {
-        return Err(Stop::Refused {
+        return Err(Stop {
             address,
             side: Side::Old,
             refusal,
         });
     }
     if let Err(refusal) = look(new, address, &mut new_block) {
-        return Err(Stop::Refused {
+        return Err(Stop {
             address,
             side: Side::New,
             refusal,
@@ -100,7 +105,7 @@ fn compare_at<A: Reader, B: Reader>(
 fn shared_addresses(old_size: u16, new_size: u16) -> u16
     ensures { λ r. ⌜ r ≡ shared «old_size» «new_size» ⌝ }
 {
-    old_size.min(new_size).saturating_sub(33).max(1)
+    plan_size(old_size.min(new_size)).unwrap_or(1)
 }
 
 fn lone_addresses(old_size: u16, new_size: u16) -> Option<Only>

@@ -3,4 +3,5 @@ pub mod comparison;
 pub mod difference;
 pub mod images;
 pub mod report;
+pub mod room;
 pub mod stop;

@@ -3,11 +3,13 @@ ghost use mathlib.Core.Path.{_≡_};
 ghost use Rattle.std.specs.Of.String.{string-bytes};
 ghost use Rattle.std.specs.Vec.{made};
 ghost use Rattle.store.specs.LookValues.{look-refusal-values};
-ghost use Rattle.compare.specs.Lines.{difference-line, difference-lines, side-text, only-line, summary-line, report-text, refusal-text};
+ghost use Rattle.compare.specs.Outcomes.{stop-values};
+ghost use Rattle.compare.specs.Lines.{difference-line, difference-lines, side-text, only-line, summary-line, report-text, refusal-text, stop-text, unreadable-text};
 use crate::comparison::Comparison;
 use crate::comparison::Only;
 use crate::difference::Difference;
 use crate::stop::Side;
+use crate::stop::Stop;
 use std::alloc::AllocError;
 use std::alloc::Global;
 use store::look_refusal::LookRefusal;
@@ -72,11 +74,33 @@ fn tell_counts(heap: Global, compared: u16, differ: usize) -> Result<String, All
     format!(heap, "{compared} compared, {differ} differ\n")
 }
 
-// Names the file that is no store, and says why.
-pub fn refusal_line(heap: Global, file: &str, refusal: &LookRefusal) -> Result<String, AllocError>
-    ensures { λ r. ⌜ made r (λ s. string-bytes s ≡ refusal-text (now (file .entry)) (look-refusal-values (now (refusal .entry)))) ⌝ }
+// The line for a comparison that ended early: names the file that is no store, and says why.
+pub fn stop_line(
+    heap: Global,
+    old_file: &str,
+    new_file: &str,
+    stop: &Stop,
+) -> Result<String, AllocError>
+    ensures { λ r. ⌜ made r (λ s. string-bytes s ≡ stop-text (now («old_file» .entry)) (now («new_file» .entry)) (stop-values (now (stop .entry)))) ⌝ }
+{
+    let refusal = stop.refusal;
+    match stop.side {
+        Side::Old => refusal_line(heap, old_file, refusal),
+        Side::New => refusal_line(heap, new_file, refusal),
+    }
+}
+
+fn refusal_line(heap: Global, file: &str, refusal: LookRefusal) -> Result<String, AllocError>
+    ensures { λ r. ⌜ made r (λ s. string-bytes s ≡ refusal-text (now (file .entry)) (look-refusal-values refusal)) ⌝ }
 {
     let number = refusal.number();
     let meaning = refusal.meaning();
     format!(heap, "plandiff: {file}: {number}: {meaning}")
+}
+
+// The line for a file that cannot be read.
+pub fn unreadable_line(heap: Global, file: &str, reason: &str) -> Result<String, AllocError>
+    ensures { λ r. ⌜ made r (λ s. string-bytes s ≡ unreadable-text (now (file .entry)) (now (reason .entry))) ⌝ }
+{
+    format!(heap, "plandiff: {file}: cannot be read: {reason}")
 }

@@ -8,14 +8,10 @@ pub enum Side {
     New,
 }
 
+// That side's look at the address was refused.
 #[derive(Clone, Copy, Debug)]
-pub enum Stop {
-    // That side's look at the address was refused.
-    Refused {
-        address: u16,
-        side: Side,
-        refusal: LookRefusal,
-    },
-    // No memory for the list: nothing was looked up.
-    NoMemory,
+pub struct Stop {
+    pub address: u16,
+    pub side: Side,
+    pub refusal: LookRefusal,
 }

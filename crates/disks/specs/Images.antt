@@ -23,7 +23,7 @@ view-of i = bytes-view (now (i .bytes))
 abbrev pub Sound : Image → Type 0
 Sound i = (j : ℕ) → getD (now (i .bytes)) j 0 < 256
 
--- a read changes nothing
+-- a read shows the block, or refuses past the size, and changes nothing
 abbrev pub Reads : Image → ℕ → Shown → Image → Type 0
 Reads s k x t = (t ≡ s) × (x ≡ cond (ltb k (whole-blocks (now (s .bytes)))) (Ok (block-of (now (s .bytes)) k)) (Err PastEnd))
 

@@ -59,6 +59,7 @@ pub record CauseFits (h : ℕ) (c : CauseValues) : Type 0 where
   pub trail : length (c .trail) ≤ h
   pub sides : (j : ℕ) → getD (c .trail) j 0 ≤ 1
 
+-- a state whose cause, if it has one, is such
 abbrev pub StateFits : ℕ → StateValues → Type 0
 StateFits h On = Unit {0}
 StateFits h (Dark c) = CauseFits h c
@@ -71,11 +72,11 @@ pub record Proper (v : View) : Type 0 where
   pub faces : (j : ℕ) → j < v .size → Whole (v .face j)
   pub candidates : (j : ℕ) (b : Content) → j < v .size → v .candidate j b → Whole b
 
--- faces keep
+-- each block has the same face in w as in v
 abbrev pub FacesKeep : View → View → Type 0
 FacesKeep v w = (j : ℕ) → j < v .size → w .face j ≡ v .face j
 
--- no candidate is gained
+-- no block has a candidate in w that it had not in v
 abbrev pub NoneGained : View → View → Type 0
 NoneGained v w = (j : ℕ) (b : Content) → j < v .size → w .candidate j b → v .candidate j b
 
@@ -87,7 +88,7 @@ FacesStand v = (j : ℕ) → j < v .size → v .candidate j (v .face j)
 abbrev pub NothingWaits : View → Type 0
 NothingWaits v = (j : ℕ) (b : Content) → j < v .size → v .candidate j b → b ≡ v .face j
 
--- size and height never change
+-- w has the size and the height of v
 pub record Kept (v w : View) : Type 0 where
   pub size : w .size ≡ v .size
   pub height : w .height ≡ v .height
@@ -132,12 +133,13 @@ pub record RestartOn (v : View) (r : Answer Unit) (w : View) : Type 0 where
   pub settled : w .state ≡ On → NothingWaits w
   pub gained : NoneGained v w
 
--- A call on block k, where x is what a done one carries: refused past the size, then by the state; else as the rule says.
+-- A call on block k that answers r, and x is what a done answer carries: refused past the size, then by the state; else as the rule says.
 pub record AtBlock {X : Type 0} (v : View) (k : ℕ) (x : X) (r : Answer X) (w : View) (rule : Type 0) : Type 0 where
   pub past : v .size ≤ k → (r ≡ Err PastEnd) × Unchanged v w
   pub off : k < v .size → Off (v .state) → (r ≡ answer-by x (v .state)) × Unchanged v w
   pub on : k < v .size → v .state ≡ On → rule
 
+-- the four calls
 abbrev pub ReadMeans : View → ℕ → Shown → View → Type 0
 ReadMeans v k x w = AtBlock v k (v .face k) x w (ReadOn v k x w)
 
@@ -158,9 +160,11 @@ module _ {S : Type 0} (view : S → View) (sound : S → Type 0) where
   abbrev pub Means : S → S → (View → View → Type 0) → Type 0
   Means s t rule = sound s → sound t × rule (view s) (view t)
 
+  -- a sound reader is proper
   abbrev pub ProperLaw : Type 0
   ProperLaw = (s : S) → sound s → Proper (view s)
 
+  -- what the reader does at a call is what the call means
   abbrev pub ReadLaw : (S → ℕ → Shown → S → Type 0) → Type 0
   ReadLaw reads = (s t : S) (k : ℕ) (x : Shown) → reads s k x t → Means s t (λ v w. ReadMeans v k x w)
 

@@ -12,17 +12,19 @@ use Rattle.disks.specs.declared.refusal.Refusal.the-variants as refusal
 use Rattle.std.specs.declared.result.Result.{Result}
 use Rattle.std.specs.declared.result.Result.the-variants.{Ok, Err}
 
--- a cause: the call that met the cut or the death, its block, and the sides of its trail, top pair first
+-- a cause: the call that met the cut or the death (1 read, 2 write, 3 barrier, 4 restart, 0 none: not joined), its block, and the sides of its trail, top pair first
 pub record CauseValues : Type 0 where
   pub call : ℕ
   pub block : ℕ
   pub trail : List ℕ
 
+-- a state: on, or off with its cause
 pub data StateValues : Type 0 where
   On : StateValues
   Dark : CauseValues → StateValues
   Dead : CauseValues → StateValues
 
+-- a refusal: by the block, or by the state with its cause
 pub data RefusalValues : Type 0 where
   PastEnd : RefusalValues
   IsDark : CauseValues → RefusalValues

@@ -7,7 +7,7 @@ pub struct Cause {
     pub call: u8,
     // The block of that call; 0 for the calls 0, 3 and 4.
     pub block: u16,
-    // How many of `sides` are the trail from the top pair down to the disk; the others are 0.
+    // How many of `sides` are the trail, from the top pair down to the disk; the others say nothing.
     pub depth: u8,
     pub sides: [u8; 8],
 }

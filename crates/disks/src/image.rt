@@ -25,7 +25,7 @@ impl<'a> Image<'a> {
         Image::over(bytes)
     }
 
-    // What is handed on is known to be bytes.
+    // A function of its own, since the check knows a slice to be bytes where it is handed on.
     fn over(bytes: &'a [u8]) -> Image<'a>
         ensures { λ r. ⌜ now (r .bytes) ≡ now (bytes .entry) ⌝ }
     {

@@ -33,5 +33,5 @@ pub trait Reader {
         ensures steps { λ r. ⌜ reads (now (self .entry)) block (shown r (now (place .exit))) (now (self .exit)) ⌝ }
         ensures means { λ r. ⌜ Means view sound (now (self .entry)) (now (self .exit)) (λ v w. ReadMeans v block (shown r (now (place .exit))) w) ⌝ }
         ensures place { λ r. ⌜ Untouched r (now (place .entry)) (now (place .exit)) ⌝ }
-        ensures proper { λ _. ⌜ (sound (now (self .entry)) → Proper (view (now (self .entry)))) ⌝ };
+        ensures proper { λ _. ⌜ (sound (now (self .entry)) → Proper (view (now (self .entry))) × Proper (view (now (self .exit)))) ⌝ };
 }

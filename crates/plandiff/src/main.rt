@@ -1,9 +1,9 @@
 // plandiff OLD NEW: compares the plans of two stores that stand in files.
 use compare::images::compare_images;
-use compare::report::refusal_line;
 use compare::report::report;
-use compare::stop::Side;
-use compare::stop::Stop;
+use compare::report::stop_line;
+use compare::report::unreadable_line;
+use compare::room::Room;
 use std::alloc::AllocError;
 use std::env;
 use std::fs;
@@ -21,7 +21,7 @@ impl From<AllocError> for Failure as FailureFromAlloc {
     }
 }
 
-// The status alone: the reason was printed.
+// The status alone: the reason was told.
 #[derive(Drop)]
 struct Failed;
 
@@ -29,45 +29,41 @@ fn main(rt: LibcRuntime) -> Result<(), Failed> {
     match run(&rt) {
         Ok(text) => match rt.print(text.as_str()) {
             Ok(()) => Ok(()),
-            Err(_) => Err(Failed),
+            Err(_) => Err(tell(&rt, "plandiff: cannot write to standard output")),
         },
-        Err(failure) => {
-            tell(&rt, &failure);
-            Err(Failed)
-        }
+        Err(Failure::Line(line)) => Err(tell(&rt, line.as_str())),
+        Err(Failure::NoMemory) => Err(tell(&rt, "plandiff: no memory")),
     }
 }
 
 // What cannot be told on standard error cannot be told at all.
-fn tell(rt: &LibcRuntime, failure: &Failure) {
-    let _ = match failure {
-        Failure::Line(line) => rt.eprintln(line.as_str()),
-        Failure::NoMemory => rt.eprintln("plandiff: no memory"),
-    };
+fn tell(rt: &LibcRuntime, line: &str) -> Failed {
+    let _ = rt.eprintln(line);
+    Failed
 }
 
 fn run(rt: &LibcRuntime) -> Result<String, Failure> {
     let heap = rt.alloc();
+    let room = Room::new(heap)?;
     let (old_file, new_file) = file_names(rt)?;
     let old = read_file(rt, old_file.as_str())?;
     let new = read_file(rt, new_file.as_str())?;
-    match compare_images(heap, &old, &new) {
+    match compare_images(room, &old, &new) {
         Ok(comparison) => Ok(report(heap, &comparison)?),
-        Err(Stop::Refused { side, refusal, .. }) => {
-            let file = match side {
-                Side::Old => old_file.as_str(),
-                Side::New => new_file.as_str(),
-            };
-            Err(Failure::Line(refusal_line(heap, file, &refusal)?))
+        Err(stop) => {
+            let line = stop_line(heap, old_file.as_str(), new_file.as_str(), &stop)?;
+            Err(Failure::Line(line))
         }
-        Err(Stop::NoMemory) => Err(Failure::NoMemory),
     }
 }
 
 fn file_names(rt: &LibcRuntime) -> Result<(String, String), Failure> {
     let usage = String::from_str(rt.alloc(), "plandiff: usage: plandiff OLD NEW")?;
-    let Ok(mut args) = env::args(rt) else {
-        return Err(Failure::Line(usage));
+    let mut args = match env::args(rt) {
+        Ok(args) => args,
+        Err(e) => return Err(Failure::Line(
+            format!(rt.alloc(), "plandiff: arguments cannot be read: {e}")?,
+        )),
     };
     let _program = args.next();
     match (args.next(), args.next(), args.next()) {
@@ -79,6 +75,9 @@ fn file_names(rt: &LibcRuntime) -> Result<(String, String), Failure> {
 fn read_file(rt: &LibcRuntime, file: &str) -> Result<Vec<u8>, Failure> {
     match fs::read(rt, file) {
         Ok(bytes) => Ok(bytes),
-        Err(e) => Err(Failure::Line(format!(rt.alloc(), "plandiff: {file}: cannot be read: {e}")?)),
+        Err(e) => {
+            let reason = format!(rt.alloc(), "{e}")?;
+            Err(Failure::Line(unreadable_line(rt.alloc(), file, reason.as_str())?))
+        }
     }
 }

@@ -35,6 +35,7 @@ pairs (a ∷ b ∷ rest) = a / 16 ∷ (a % 16 * 16 + b / 256) ∷ b % 256 ∷ pa
 abbrev pub front : ℕ → ℕ → List ℕ
 front n count = 0xB1 ∷ 0x0C ∷ (16 + (n - 1) / 256) ∷ (n - 1) % 256 ∷ count * 4 ∷ []
 
+-- the block of a header
 unfoldable pub packed : HeaderValues → Content
 packed h = front (h .n) (length (h .log)) ++ (pairs (filled (h .log)) ++ replicate 459 0)
 
@@ -61,15 +62,18 @@ fits n count [] = true
 fits n zero (x ∷ xs) = eqb x 0 && fits n zero xs
 fits n (suc count) (x ∷ xs) = ltb x n && fits n count xs
 
+-- each byte is zero
 unfoldable pub all-zero : List ℕ → Bool
 all-zero [] = true
 all-zero (b ∷ bs) = eqb b 0 && all-zero bs
 
+-- mark and layout; count, zero bits and fields; the last 459 bytes
 unfoldable pub well-formed : Content → Bool
 well-formed bs =
     (eqb (getD bs 0 0) 0xB1 && (eqb (getD bs 1 0) 0x0C && eqb (getD bs 2 0 / 16) 1))
     && ((leb (count-in bs) 32 && (eqb (getD bs 4 0 % 4) 0 && fits (n-in bs) (count-in bs) (fields-in bs))) && all-zero (drop 53 bs))
 
+-- the header that stands in a well formed block
 unfoldable pub unpacked : Content → Option HeaderValues
 unpacked bs = cond (well-formed bs) (Some (record { n = n-in bs; log = take (count-in bs) (fields-in bs) })) None
 

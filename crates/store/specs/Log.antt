@@ -28,6 +28,7 @@ pub record NewestAt (log : List ℕ) (a slot i : ℕ) : Type 0 where
   pub holds : getD log i 0 ≡ a
   pub later : (j : ℕ) → i < j → j < length log → getD log j 0 ≡ a → ⊥
 
+-- the newest slot for a, or none where no slot holds it
 abbrev pub Newest : List ℕ → ℕ → Option ℕ → Type 0
 Newest log a (Some slot) = (i : ℕ) × NewestAt log a slot i
 Newest log a None = (i : ℕ) → i < length log → getD log i 0 ≡ a → ⊥

@@ -13,6 +13,7 @@ use Rattle.store.specs.declared.header.Header.{Header}
 use Rattle.store.specs.declared.look_refusal.LookRefusal.{LookRefusal}
 use Rattle.store.specs.declared.look_refusal.LookRefusal.the-variants as refusal
 
+-- what the reader refused, or look itself
 pub data LookRefusalValues : Type 0 where
   Disk : RefusalValues → LookRefusalValues
   UnfitSize : LookRefusalValues
@@ -35,7 +36,7 @@ look-numbered PastPlan = (12, [])
 -- the meaning of a refusal in words
 abbrev pub look-meaning : LookRefusalValues → List ℕ
 look-meaning (Disk e) = meaning-of e
-look-meaning UnfitSize = codes "size below 34 or above 4,129"
+look-meaning UnfitSize = codes "size below 34 or above 4,129 blocks"
 look-meaning NoHeader = codes "header not well formed or N not size - 33"
 look-meaning PastPlan = codes "address at or past N"
 
@@ -43,6 +44,7 @@ look-meaning PastPlan = codes "address at or past N"
 abbrev pub LookTellsApart : Type 0
 LookTellsApart = (x y : LookRefusalValues) → look-numbered x ≡ look-numbered y → x ≡ y
 
+-- done with an x, or a refusal
 abbrev pub LookAnswer : Type 0 → Type 0
 LookAnswer X = Result X LookRefusalValues
 
@@ -51,6 +53,7 @@ abbrev pub looked : Result Unit LookRefusal → Content → LookAnswer Content
 looked (Ok u) b = Ok b
 looked (Err e) b = Err (look-refusal-values e)
 
+-- the same of a header that was read
 abbrev pub header-looked : Result Header LookRefusal → LookAnswer HeaderValues
 header-looked (Ok h) = Ok (header-values h)
 header-looked (Err e) = Err (look-refusal-values e)

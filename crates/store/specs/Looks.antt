@@ -81,7 +81,7 @@ module _ {S : Type 0} (R : Reader.Ghosts S) where
 abbrev pub look-answer : View → ℕ → StateValues → LookAnswer Content
 look-answer v a st = cond (fit (v .size)) (look-answer-by (found (v .size) (v .face) a) st) (Err UnfitSize)
 
--- What a look shows and leaves, by the faces. The state that it leaves is free where the reader was on; else nothing changes.
+-- What a look shows and leaves, by the faces. The state that it leaves is free where the reader was on and its size is fit; else nothing changes.
 pub record LookMeans (v : View) (a : ℕ) (x : LookAnswer Content) (w : View) : Type 0 where
   pub kept : Kept v w
   pub answer : x ≡ look-answer v a (w .state)

@@ -3,8 +3,8 @@ ghost use mathlib.Core.Path.{_≡_};
 ghost use Prim.Native.Nat.{ℕ, _<_, _≤_};
 ghost use lib.ListN.{getD};
 
-pub mod codec;
-pub mod log;
+mod codec;
+mod log;
 
 #[derive(Clone, Copy)]
 pub struct Header {

@@ -8,6 +8,7 @@ ghost use Rattle.store.specs.Looks.{plan-of, SizeExamples, Looks, LookMeans, R
 use crate::header::Header;
 use crate::look_refusal::LookRefusal;
 use crate::look_refusal::LookRefusalFromDisk;
+use disks::block::BLOCK_BYTES;
 use disks::block::Block;
 use disks::reader::Reader;
 
@@ -55,7 +56,7 @@ pub fn plan_size(size: u16) -> Option<u16>
 fn read_header<R: Reader>(reader: &mut R, n: u16) -> Result<Header, LookRefusal>
     ensures { λ r. ⌜ ReadsHeader (met R·Reader) n (now (reader .entry)) (header-looked r) (now (reader .exit)) ⌝ }
 {
-    let mut bytes = [0u8; 512];
+    let mut bytes = [0u8; BLOCK_BYTES];
     reader.read(0, &mut bytes)?;
     let Some(header) = Header::unpack(&bytes) else {
         return Err(LookRefusal::NoHeader);

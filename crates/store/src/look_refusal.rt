@@ -35,7 +35,7 @@ impl LookRefusal {
     {
         match self {
             LookRefusal::Disk(e) => e.meaning(),
-            LookRefusal::UnfitSize => "size below 34 or above 4,129",
+            LookRefusal::UnfitSize => "size below 34 or above 4,129 blocks",
             LookRefusal::NoHeader => "header not well formed or N not size - 33",
             LookRefusal::PastPlan => "address at or past N",
         }

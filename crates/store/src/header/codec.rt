@@ -6,6 +6,7 @@ ghost use Rattle.store.specs.Headers.{header-values};
 ghost use Rattle.store.specs.Layout.{packed, unpacked, fits, fields-in, all-zero, PackedExamples, UnpackedExamples, OnlyPacking};
 ghost use Rattle.store.specs.Bits.{bits, layout-bits, WellFormedExactly};
 use crate::header::Header;
+use disks::block::BLOCK_BYTES;
 use disks::block::Block;
 
 // The mark in the first two bytes tells a store's header from other blocks.
@@ -18,7 +19,7 @@ impl Header {
         ensures layout { λ r. ⌜ bits r ≡ layout-bits (header-values (now (self .entry))) ⌝ }
         ensures examples { λ _. ⌜ PackedExamples ⌝ }
     {
-        let mut out = [0u8; 512];
+        let mut out = [0u8; BLOCK_BYTES];
         out[0] = MARK[0];
         out[1] = MARK[1];
         let last = self.n - 1;

@@ -12,7 +12,7 @@ use Rattle.compare.specs.Compares.{LooksMeant, Compared}
 use Rattle.compare.specs.declared.difference.Difference.{Difference}
 use Rattle.compare.proofs.Turns.{one-more, ends}
 use Rattle.compare.proofs.comparison.list_differences.Needs as need
-use Rattle.compare.proofs.comparison.list_differences.Needs.{in-Some, in-rest-2}
+use Rattle.compare.proofs.comparison.list_differences.Needs.{in-Some, in-rest}
 
 pub returns-in-Break-difference : need.returns-in-Break-difference
 returns-in-Break-difference g c =
@@ -22,7 +22,7 @@ returns-in-Break-difference g c =
 pub loop-address-again : need.loop-address-again
 loop-address-again g c =
     let Held : Vec Difference Global → Type 0 = λ v.
-    (vec-len v ≤ c .loop-address .address + 1) × (c .args .addresses ≤ vec-cap v)
+    (vec-len v ≤ c .loop-address .address + 1) × (4096 ≤ vec-cap v)
     × Compared (LooksMeant (g .A·Reader)) (LooksMeant (g .B·Reader)) (c .loop-address .address + 1) (c .args .old .now) (c .args .new .now) (vec-items v) (c .compare-at .last .old) (c .compare-at .last .new) in
     let more = one-more (LooksMeant (g .A·Reader)) (LooksMeant (g .B·Reader)) (c .loop-address .address) (c .args .old .now) _ (c .args .new .now) _ _ (c .loop-address .inv .2) in
     let room = c .loop-address .inv in
@@ -37,11 +37,11 @@ loop-address-again g c =
             more _ (c .in-Continue-difference .field-0) _ _ (c .in-Continue-difference .ensures tt)
                 (w .push-reserved .ensures .items ∙ ap (λ (o : Option Difference). items ++ listOf o) (sym (w .in-Some .is))),
           )
-      | in-rest-2 w ↦
+      | in-rest w ↦
           subst Held (sym (w .differences-is)) (
             omega arith,
             omega arith,
             more _ (c .in-Continue-difference .field-0) _ _ (c .in-Continue-difference .ensures tt)
-                (sym (append-nil items) ∙ ap (λ (o : Option Difference). items ++ listOf o) (sym (w .in-rest-2 .is))),
+                (sym (append-nil items) ∙ ap (λ (o : Option Difference). items ++ listOf o) (sym (w .in-rest .is))),
           )
     ]

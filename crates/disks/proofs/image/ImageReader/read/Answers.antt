@@ -6,5 +6,5 @@ returns c = record {
   steps = c .show .ensures .steps;
   means = image-reading _ _ _ _ (c .show .ensures .steps);
   place = c .show .ensures .place;
-  proper = image-proper (c .args .self .now);
+  proper = λ snd. (image-proper (c .args .self .now) snd, image-proper (c .args .self .now) snd);
 }
