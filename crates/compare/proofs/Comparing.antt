@@ -6,7 +6,8 @@ use mathlib.Core.List.{List, [], _++_}
 use Prim.Native.Nat.{ℕ, zero, suc, _+_, _-_, _<_, min}
 use native.Mathlib.Omega.{arith}
 use Rattle.disks.specs.Values.{StateValues, On}
-use Rattle.disks.specs.Meaning.{View, Content, Kept, FacesKeep, NoneGained}
+use Rattle.disks.specs.Meaning.{View, Content, Off, Kept, FacesKeep, NoneGained, Unchanged}
+use Rattle.disks.proofs.Views.{same, kept-then, faces-then, gained-then, unchanged-then}
 use Rattle.disks.specs.declared.reader.Reader
 use Rattle.std.proofs.shelf.Tests.{cases-lt, leb-true, and-parts}
 use Rattle.std.specs.Options.{valueOr}
@@ -39,18 +40,22 @@ record Steady (v w : View) : Type 0 where
   kept : Kept v w
   faces : FacesKeep v w
   gained : NoneGained v w
+  unfit : fit (v .size) ≡ false → Unchanged v w
+  off : Off (v .state) → Unchanged v w
 
 steady-same : (v : View) → Steady v v
-steady-same v = record { kept = record { size = refl; height = refl }; faces = λ j lt. refl; gained = λ j b lt x. x }
+steady-same v = let u = same v in record { kept = u .kept; faces = u .faces; gained = u .gained; unfit = λ _. u; off = λ _. u }
 
 left-steady : (v w : View) → Steady v w → Left v w
-left-steady v w s = record { kept = s .kept; faces = λ _. s .faces; gained = s .gained }
+left-steady v w s = record { kept = s .kept; faces = λ _. s .faces; gained = s .gained; unfit = s .unfit; off = s .off }
 
 left-then : (v m w : View) → Steady v m → Left m w → Left v w
 left-then v m w s l = record {
-  kept = record { size = l .kept .size ∙ s .kept .size; height = l .kept .height ∙ s .kept .height };
-  faces = λ o j lt. l .faces o j (let e = s .kept .size in omega arith) ∙ s .faces j lt;
-  gained = λ j b lt x. s .gained j b lt (l .gained j b (let e = s .kept .size in omega arith) x);
+  kept = kept-then v m w (s .kept) (l .kept);
+  faces = λ o. faces-then v m w (s .kept) (s .faces) (l .faces o);
+  gained = gained-then v m w (s .kept) (s .gained) (l .gained);
+  unfit = λ f. unchanged-then v m w (s .unfit f) (l .unfit (ap fit (s .kept .size) ∙ f));
+  off = λ o. let u = s .off o in unchanged-then v m w u (l .off (subst Off (sym (u .state)) o));
 }
 
 -- one side: a look after done ones
@@ -58,14 +63,14 @@ module _ {S : Type 0} (R : Reader.Ghosts S) (v : View) (m t : S) (a : ℕ) (stea
   looked : (x : LookAnswer Content) → LooksMeant R m a x t → R .sound t × Left v (R .view t) × (x ≡ look-answer v a (R .view t .state))
   looked x l =
       let p = l .1 snd in
-      let left : Left (R .view m) (R .view t) = record { kept = p .1 .kept; faces = p .1 .faces; gained = p .1 .gained } in
+      let left : Left (R .view m) (R .view t) = record { kept = p .1 .kept; faces = p .1 .faces; gained = p .1 .gained; unfit = p .1 .unfit; off = p .1 .off } in
       (p .0, left-then v (R .view m) (R .view t) steady left, p .1 .answer ∙ answer-keeps v (R .view m) a (R .view t .state) (steady .kept) (steady .faces))
 
   looked-done : (b : Content) → LooksMeant R m a (Ok b) t → R .sound t × Steady v (R .view t) × (R .view t .state ≡ On) × (shows v a ≡ Ok b)
   looked-done b l =
       let q = looked (Ok b) l in
       let on = answer-on v a (R .view t .state) b (q .2) in
-      (q .0, record { kept = q .1 .kept; faces = q .1 .faces on; gained = q .1 .gained }, on, sym (q .2 ∙ ap (look-answer v a) on))
+      (q .0, record { kept = q .1 .kept; faces = q .1 .faces on; gained = q .1 .gained; unfit = q .1 .unfit; off = q .1 .off }, on, sym (q .2 ∙ ap (look-answer v a) on))
 
 -- what is shown at an address is the plan's block
 planned : (v : View) (a : ℕ) (b : Content) → shows v a ≡ Ok b → (plan v a ≡ b) × (shows v a ≡ Ok (plan v a))

@@ -1,11 +1,11 @@
 -- The comparison: its steps, look by look, and what it means.
 use mathlib.Core.Path.{_≡_}
-use mathlib.Core.Bool.{cond}
+use mathlib.Core.Bool.{false, cond}
 use mathlib.Core.List.{List, [], _++_}
 use Prim.Native.Nat.{ℕ, zero, suc, _-_, _<_, min}
 use lib.Dec.{ltb}
 use Rattle.disks.specs.Values.{StateValues, On}
-use Rattle.disks.specs.Meaning.{View, Content, Kept, FacesKeep, NoneGained, Means}
+use Rattle.disks.specs.Meaning.{View, Content, Off, Kept, FacesKeep, NoneGained, Unchanged, Means}
 use Rattle.disks.specs.declared.reader.Reader
 use Rattle.std.specs.Options.{valueOr}
 use Rattle.std.specs.Vec.{listOf}
@@ -14,7 +14,7 @@ use Rattle.std.specs.declared.option.Option.the-variants.{Some, None}
 use Rattle.std.specs.declared.result.Result.{Result}
 use Rattle.std.specs.declared.result.Result.the-variants.{Ok, Err}
 use Rattle.store.specs.LookValues.{LookAnswer}
-use Rattle.store.specs.Looks.{plan-of, Looks, LookMeans, look-answer}
+use Rattle.store.specs.Looks.{fit, plan-of, Looks, LookMeans, look-answer}
 use Rattle.compare.specs.Differences.{difference, differences}
 use Rattle.compare.specs.Outcomes.{StopValues, Refused, Outcome}
 use Rattle.compare.specs.declared.comparison.Only.{Only}
@@ -92,6 +92,8 @@ pub record Left (v w : View) : Type 0 where
   pub kept : Kept v w
   pub faces : w .state ≡ On → FacesKeep v w
   pub gained : NoneGained v w
+  pub unfit : fit (v .size) ≡ false → Unchanged v w
+  pub off : Off (v .state) → Unchanged v w
 
 -- what a comparison says, and what it leaves of both readers
 pub record Meant (v w : View) (x : Outcome (List Difference)) (v′ w′ : View) : Type 0 where

@@ -9,7 +9,7 @@ use lib.Dec.{eqb, leb, ltb}
 use lib.ListN.{length}
 use Rattle.disks.specs.Values.{StateValues, On, Dark, Dead, PastEnd, answer-by}
 use Rattle.disks.specs.Meaning.{View, Content, Shown, Off, Kept, FacesKeep, NoneGained, Unchanged, Means, ReadMeans, ReadOn}
-use Rattle.disks.proofs.Views.{same, on-or-off}
+use Rattle.disks.proofs.Views.{same, on-or-off, kept-then, faces-then, gained-then}
 use Rattle.disks.specs.declared.reader.Reader
 use Rattle.std.proofs.shelf.Tests.{and-parts, leb-true, eqb-true, ltb-true, lt-ltb, le-ltb, cond-true, cond-false}
 use Rattle.std.specs.Orderings.{When}
@@ -91,17 +91,6 @@ newest-within k (x ∷ log) a d = go (eqb x a) (newest-within (suc k) log a)
 
 block-within : (log : List ℕ) (a n size : ℕ) → length log ≤ 32 → a < n → n ≡ size - 33 → block-for log a < size
 block-within log a n size few lt e = ⊎-elim (λ l. omega arith) (λ h. omega arith) (newest-within 1 log a (33 + a))
-
--- one after the other
-module _ (v m w : View) where
-  kept-then : Kept v m → Kept m w → Kept v w
-  kept-then p q = record { size = q .size ∙ p .size; height = q .height ∙ p .height }
-
-  faces-then : Kept v m → FacesKeep v m → FacesKeep m w → FacesKeep v w
-  faces-then k p q j lt = q j (let e = k .size in omega arith) ∙ p j lt
-
-  gained-then : Kept v m → NoneGained v m → NoneGained m w → NoneGained v w
-  gained-then k p q j b lt x = p j b lt (q j b (let e = k .size in omega arith) x)
 
 header-by : (n : ℕ) (b : Content) (st : StateValues) → header-shown n (answer-by b st) ≡ look-answer-by (header-of n (unpacked b)) st
 header-by n b On = refl
