@@ -1,5 +1,5 @@
 -- A schedule's steps are those that its words spell out.
-use Rattle.std.proofs.Common.{◌≡◌, ℕ, zero, suc, ◌+◌, ◌-◌, ◌<◌, List, [], ◌∷◌, refl, ap, ◌∙◌, add-one, arith}
+use Rattle.std.proofs.Common.{◌≡◌, ℕ, zero, suc, ◌-◌, ◌<◌, List, [], ◌∷◌, refl, ap, ◌∙◌, add-one, arith}
 use Rattle.std.proofs.lemmas.Bool.{eq-eqb, ne_eqb}
 use Rattle.bench.specs.declared.schedule.Step.{Step}
 use Rattle.bench.specs.Schedules.{verb_part, pick_part, gap_part, step_of, empty_step, step_from, left_after, step_at, SpelledOut}

@@ -76,11 +76,3 @@ copied_in bytes b part start k e p lt =
     let d = drop-drop 512 (512 * k) bytes in
     let t = below k (whole_blocks bytes) (with_block bytes k b) bytes lt in
     cc
-
--- the code's copy out of a part of the bytes
-pub copied_out : (bytes place now : List ℕ) (start k : ℕ) → start ≡ 512 * k → now ≡ take (start + 512 - start) (drop start bytes) → k < whole_blocks bytes →
-    now ≡ cond (ltb k (whole_blocks bytes)) (block_of bytes k) place
-copied_out bytes place now start k e p lt =
-    let s : start + 512 - start ≡ 512 = omega arith in
-    let t = below k (whole_blocks bytes) (block_of bytes k) place lt in
-    cc

@@ -2,14 +2,14 @@ use Rattle.std.proofs.Common.{sym, refl, arith}
 use Rattle.disks.proofs.Blocks.{blocks_apart, copied_in, not_below}
 use Rattle.disks.proofs.block.put_block.Goals as goal
 
-pub returns-then-block-count-blocks : goal.returns-then-block-count-blocks
-returns-then-block-count-blocks c = record {
-  after = copied_in c.args.bytes.now c.args.content.now c.copy-from-slice.new.self _ c.args.block refl c.copy-from-slice.ensures.after (omega arith);
+pub returns-then-block-count_blocks : goal.returns-then-block-count_blocks
+returns-then-block-count_blocks c = record {
+  after = copied_in c.args.bytes.now c.args.content.now c.copy_from_slice.new.self _ c.args.block refl c.copy_from_slice.ensures.after (omega arith);
   apart = blocks_apart;
 }
 
-pub returns-else-block-count-blocks : goal.returns-else-block-count-blocks
-returns-else-block-count-blocks c = record {
+pub returns-else-block-count_blocks : goal.returns-else-block-count_blocks
+returns-else-block-count_blocks c = record {
   after = sym (not_below c.args.block _ _ c.args.bytes.now (omega arith));
   apart = blocks_apart;
 }

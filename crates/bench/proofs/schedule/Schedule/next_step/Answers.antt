@@ -18,6 +18,6 @@ returns-then-gap-gt0 c = record {
 
 pub returns : goal.returns
 returns c = record {
-  step = no_gap c.args.self.now.words.items c.args.self.now.at c.index-word.result.now (omega arith) c.index-word.ensures c.verb-of.result c.verb-of.ensures (omega arith);
+  step = no_gap c.args.self.now.words.items c.args.self.now.at c.index-word.result.now (omega arith) c.index-word.ensures c.verb_of.result c.verb_of.ensures (omega arith);
   law = spelled_out;
 }

@@ -4,6 +4,6 @@ use Rattle.disks.proofs.image.Image.show.Goals as goal
 
 pub returns : goal.returns
 returns c = record {
-  steps = read_within c.args.self.now c.args.block c.copy-block.new.place (omega arith) c.copy-block.ensures;
+  steps = read_within c.args.self.now c.args.block c.copy_block.new.place (omega arith) c.copy_block.ensures;
   place = tt;
 }
