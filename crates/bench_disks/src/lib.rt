@@ -1,4 +1,6 @@
 // Bench disks: disks in memory that fail by a schedule.
+#![tactic(auto)]
+
 pub mod buffered;
 mod cache;
 mod faults;

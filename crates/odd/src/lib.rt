@@ -1,4 +1,6 @@
 // A disk of no use that keeps every rule: it is always dark, and counts the calls that it refuses.
+#![tactic(auto)]
+
 ghost use Rattle.std.specs.Prelude.{◌≡◌, refl};
 ghost use Rattle.disks.specs.Values.{refusal_values};
 ghost use Rattle.disks.specs.Piles.{bottom};

@@ -61,6 +61,14 @@ impl<A: Disk, B: Disk> Disk for Pair<A, B> {
 
     ghost reading = { pair_reading A.Reader B.Reader A.Disk.reading B.Disk.reading };
 
+    ghost writing = { ? };
+
+    ghost flushing = { ? };
+
+    ghost restarting = { ? };
+
+    ghost losing = { ? };
+
     fn write(&mut self, block: u16, content: &Block) -> Result<(), Refusal> {
         self.write_by_steps(block, content)
     }

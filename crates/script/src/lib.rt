@@ -1,4 +1,6 @@
 // The text that the run programs take and print: lines, numbers, schedules and answers.
+#![tactic(auto)]
+
 pub mod answer;
 pub mod line;
 pub mod number;

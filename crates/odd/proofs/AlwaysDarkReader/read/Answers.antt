@@ -4,10 +4,10 @@ use Rattle.odd.proofs.AlwaysDarkReader.read.Goals as goal
 
 pub returns : goal.returns
 returns c =
-    let g = gives _ _ _ c.refuse-at.ensures in
+    let g = gives _ _ _ c.refuse_at.ensures in
     record {
       steps = g;
       means = λ snd. at_block _ _ snd _ _ _ _ g;
       place = refl;
-      proper = λ snd. (dark_proper c.args.self.now snd, dark_proper c.refuse-at.new.self (at_block c.args.self.now _ snd _ (replicate 512 0) _ Unit g).0);
+      proper = λ snd. (dark_proper c.args.self.now snd, dark_proper c.refuse_at.new.self (at_block c.args.self.now _ snd _ (replicate 512 0) _ Unit g).0);
     }

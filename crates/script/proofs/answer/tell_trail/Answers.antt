@@ -3,13 +3,13 @@ use Rattle.script.proofs.Trails.{no_sides, all_told, side_more}
 use Rattle.script.proofs.answer.tell_trail.Goals as goal
 
 pub returns-then-count-eq0 : goal.returns-then-count-eq0
-returns-then-count-eq0 c = rw (no_sides c.args.depth c.args.sides.now (omega arith)) c.from-str.ensures.ok
+returns-then-count-eq0 c = rw (no_sides c.args.depth c.args.sides.now (omega arith)) c.from_str.ensures.ok
 
 pub loop-i-preserved : goal.loop-i-preserved
 loop-i-preserved c =
     let sides = c.args.sides.now in
-    c.in-ok-push-str.ensures.bytes
-    ∙ ap (λ (t : List ℕ). string_bytes c.loop-i.text ++ t) (c.as-str.ensures.value ∙ c.in-ok-digits.ensures.ok)
+    c.in_ok-push_str.ensures.bytes
+    ∙ ap (λ (t : List ℕ). string_bytes c.loop-i.text ++ t) (c.as_str.ensures.value ∙ c.in_ok-digits.ensures.ok)
     ∙ side_more sides c.loop-i.i (string_bytes c.loop-i.text) (omega arith) c.loop-i.invariant
 
 pub returns : goal.returns

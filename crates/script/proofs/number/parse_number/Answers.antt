@@ -11,8 +11,8 @@ some_digits : (limit : ℕ) (ds : List ℕ) → (length ds ≡ 0 → ⊥) → nu
 some_digits limit [] e = absurd (e refl)
 some_digits limit (d ∷ ds) e = refl
 
-pub returns-then-is-empty : goal.returns-then-is-empty
-returns-then-is-empty c = record { value = no_digits c.args.limit c.args.text.now (true-eqb _ _ c.if-is-empty.ensures); law = reads_back }
+pub returns-then-is_empty : goal.returns-then-is_empty
+returns-then-is_empty c = record { value = no_digits c.args.limit c.args.text.now (true-eqb _ _ c.if-is_empty.ensures); law = reads_back }
 
 pub returns : goal.returns
-returns c = record { value = c.read-digits.ensures ∙ some_digits c.args.limit c.args.text.now (false-eqb _ _ c.if-is-empty.ensures); law = reads_back }
+returns c = record { value = c.read_digits.ensures ∙ some_digits c.args.limit c.args.text.now (false-eqb _ _ c.if-is_empty.ensures); law = reads_back }

@@ -5,16 +5,16 @@ use Rattle.script.specs.Words.{schedule_text}
 use Rattle.script.proofs.Scheduling.{schedules_apart, no_words}
 use Rattle.script.proofs.schedule_line.parse_schedule.Goals as goal
 
-pub returns-in-err-words : goal.returns-in-err-words
-returns-in-err-words c =
-    let p = err_from_is_err_and c.from-residual.result c.from-residual.ensures.1 in
+pub returns-in_err-words : goal.returns-in_err-words
+returns-in_err-words c =
+    let p = err_from_is_err_and c.from_residual.result c.from_residual.ensures.1 in
     record { words = rw p.1 tt; law = schedules_apart }
 
-pub returns-then-is-empty : goal.returns-then-is-empty
-returns-then-is-empty c =
-    let none = c.in-ok-words.ensures.items in
-    let empty = nil_from_length c.args.line.now (true-eqb _ _ c.if-is-empty.ensures) in
-    record { words = no_words c.args.line.now (vec_items c.in-ok-words.words) empty none; law = schedules_apart }
+pub returns-then-is_empty : goal.returns-then-is_empty
+returns-then-is_empty c =
+    let none = c.in_ok-words.ensures.items in
+    let empty = nil_from_length c.args.line.now (true-eqb _ _ c.if-is_empty.ensures) in
+    record { words = no_words c.args.line.now (vec_items c.in_ok-words.words) empty none; law = schedules_apart }
 
 pub returns : goal.returns
-returns c = record { words = c.read-words.ensures; law = schedules_apart }
+returns c = record { words = c.read_words.ensures; law = schedules_apart }

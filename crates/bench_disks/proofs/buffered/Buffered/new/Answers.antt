@@ -12,5 +12,5 @@ returns c = record {
   cuts = cut_laws;
 }
 
-pub returns-in-default : goal.returns-in-default
-returns-in-default c = record { disk = (refl, refl); sound = tt; laws = buffered_laws; cuts = cut_laws }
+pub returns-in_default : goal.returns-in_default
+returns-in_default c = record { disk = (refl, refl); sound = tt; laws = buffered_laws; cuts = cut_laws }

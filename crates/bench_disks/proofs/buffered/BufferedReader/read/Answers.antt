@@ -4,8 +4,8 @@ use Rattle.bench_disks.proofs.buffered.BufferedReader.read.Goals as goal
 pub returns : goal.returns
 returns c =
     record {
-      steps = c.read-steps.ensures.steps;
-      means = λ snd. read_law _ _ snd _ _ c.read-steps.ensures.steps;
-      place = c.read-steps.ensures.place;
-      proper = λ snd. (bench_proper _ snd, bench_proper _ (read_law _ _ snd _ _ c.read-steps.ensures.steps).0);
+      steps = c.read_steps.ensures.steps;
+      means = λ snd. read_law _ _ snd _ _ c.read_steps.ensures.steps;
+      place = c.read_steps.ensures.place;
+      proper = λ snd. (bench_proper _ snd, bench_proper _ (read_law _ _ snd _ _ c.read_steps.ensures.steps).0);
     }

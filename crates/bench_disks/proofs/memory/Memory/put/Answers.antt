@@ -5,8 +5,8 @@ use Rattle.bench_disks.proofs.memory.Memory.put.Goals as goal
 
 pub returns : goal.returns
 returns c =
-    let is = with_items_is c.args.self.now.bytes c.put-block.new.bytes (search rules) in
+    let is = with_items_is c.args.self.now.bytes c.put_block.new.bytes (search rules) in
     record {
-      after = put_in c.args.block _ _ c.deref-mut.ensures.value c.requires _ _ _ c.put-block.ensures.after is;
+      after = put_in c.args.block _ _ c.deref_mut.ensures.value c.requires _ _ _ c.put_block.ensures.after is;
       len = ap length is ∙ search rules;
     }

@@ -5,6 +5,6 @@ use Rattle.bench_disks.proofs.plain.PlainDisk.write.Goals as goal
 
 pub returns : goal.returns
 returns c = record {
-  steps = c.write-steps.ensures;
-  means = λ snd. write_law _ _ snd put _ _ _ (λ lt. put_wrote _ _ _ snd.held lt (record { long = c.told-content; bytes = c.fits-content })) c.write-steps.ensures;
+  steps = c.write_steps.ensures;
+  means = λ snd. write_law _ _ snd put _ _ _ (λ lt. put_wrote _ _ _ snd.held lt (record { long = c.told-content; bytes = c.fits-content })) c.write_steps.ensures;
 }

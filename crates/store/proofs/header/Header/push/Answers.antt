@@ -5,11 +5,17 @@ use Rattle.store.specs.Headers.{header_values}
 use Rattle.store.proofs.Making.{named_more, blank_more, log_more, roomy}
 use Rattle.store.proofs.header.Header.push.Goals as goal
 
-pub invariant-of-self : goal.invariant-of-self
-invariant-of-self c =
+pub invariant_of-self : goal.invariant_of-self
+invariant_of-self c =
     let h = c.args.self.now in
     let room : h.count < length h.addresses = omega arith in
-    (h.some, (h.most, (omega arith, (named_more h.addresses h.count c.args.address h.n room (omega arith) h.named, (blank_more h.addresses h.count c.args.address h.n room h.blank, tt)))))
+    record {
+      some = h.some;
+      most = h.most;
+      counted = omega arith;
+      named = named_more h.addresses h.count c.args.address h.n room (omega arith) h.named;
+      blank = blank_more h.addresses h.count c.args.address h.n room h.blank;
+    }
 
 pub returns : goal.returns
 returns c =

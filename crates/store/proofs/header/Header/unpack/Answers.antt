@@ -15,12 +15,18 @@ end bs long bytes r e = let w : Whole bs = record { long = long; bytes = bytes }
 last : (bs : Content) → length bs ≡ 512 → take 459 (drop 53 bs) ≡ drop 53 bs
 last bs e = take_all 459 (drop 53 bs) (simp length-drop (omega arith))
 
-pub invariant-of-result : goal.invariant-of-result
-invariant-of-result c =
-    let xs = c.read-fields-addresses.result in
-    let right = (fits_tells _ _ xs).0 (sym c.if-not-in-range.ensures) in
+pub invariant_of-result : goal.invariant_of-result
+invariant_of-result c =
+    let xs = c.read_fields-addresses.result in
+    let right = (fits_tells _ _ xs).0 (sym c.if-not-in_range.ensures) in
     let long : length xs ≡ 32 = search rules in
-    (omega arith, (omega (arith, c.fits-bytes 3), (omega arith, ((λ i l. (right i (omega arith)).named l), (blank_on _ _ xs right, tt)))))
+    record {
+      some = omega arith;
+      most = omega (arith, c.fits-bytes 3);
+      counted = omega arith;
+      named = λ i l. (right i (omega arith)).named l;
+      blank = blank_on _ _ xs right;
+    }
 
 pub returns : goal.returns
 returns c =
@@ -28,12 +34,12 @@ returns c =
     let tail = last bs c.told-bytes in
     let f : WellFormed bs = record { mark_high = omega arith; mark_low = omega arith; layout = omega arith; few = omega arith; zero_bits = omega arith; fit = cc; rest = cc } in
     let named = λ (xs : List ℕ). Some (record { n = n_in bs; log = take (count_in bs) xs }) in
-    end bs c.told-bytes c.fits-bytes _ (ap named c.read-fields-addresses.ensures ∙ sym (accepted bs f))
+    end bs c.told-bytes c.fits-bytes _ (ap named c.read_fields-addresses.ensures ∙ sym (accepted bs f))
 
 pub returns-then-bytes : goal.returns-then-bytes
 returns-then-bytes c = end _ c.told-bytes c.fits-bytes _ (refused c.args.bytes.now (λ f. grind arith))
 
-pub returns-then-not-in-range : goal.returns-then-not-in-range
-returns-then-not-in-range c =
+pub returns-then-not-in_range : goal.returns-then-not-in_range
+returns-then-not-in_range c =
     let tail = last c.args.bytes.now c.told-bytes in
     end _ c.told-bytes c.fits-bytes _ (refused c.args.bytes.now (λ f. grind arith))
