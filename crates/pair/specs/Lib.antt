@@ -9,3 +9,6 @@ pub mod Refusing
 pub mod Parts
 pub mod Carrying
 pub mod Through
+pub mod Writing
+pub mod Copying
+pub mod Restarting

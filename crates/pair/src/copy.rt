@@ -17,7 +17,7 @@ pub(crate) enum CopyStop {
 
 // The barrier lets the copied blocks stand. If the source died, it is due too: the other disk is all there is then.
 pub(crate) fn copy_over<A: Disk, B: Disk>(from: &mut A, to: &mut B)
-    ensures { CopiesOver A.Reader B.Disk from.old to.old from.new to.new }
+    ensures { CopiesOver A.Reader B.Disk.own from.old to.old from.new to.new }
 {
     let blocks = from.size();
     match copy_blocks(from, to, blocks) {
@@ -29,7 +29,7 @@ pub(crate) fn copy_over<A: Disk, B: Disk>(from: &mut A, to: &mut B)
 }
 
 fn copy_blocks<A: Reader, B: Disk>(from: &mut A, to: &mut B, blocks: u16) -> Result<(), CopyStop>
-    ensures { Copies A.Reader B.Disk blocks from.old to.old result from.new to.new }
+    ensures { Copies A.Reader B.Disk.own blocks from.old to.old result from.new to.new }
 {
     let mut place = [0; BLOCK_BYTES];
     for block in 0..blocks {
@@ -44,7 +44,7 @@ fn copy_block<A: Reader, B: Disk>(
     block: u16,
     place: &mut Block,
 ) -> Result<(), CopyStop>
-    ensures { CopiesOne A.Reader B.Disk block from.old to.old result from.new to.new }
+    ensures { CopiesOne A.Reader B.Disk.own block from.old to.old result from.new to.new }
 {
     match from.read(block, place) {
         Ok(()) => match to.write(block, place) {

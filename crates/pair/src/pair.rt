@@ -2,7 +2,9 @@
 ghost use Rattle.pair.specs.Sides.{view_of, Sound, bottoms_of};
 ghost use Rattle.pair.specs.Calls.{Reads, Writes, Barriers};
 ghost use Rattle.pair.specs.Restarts.{Restarts};
-ghost use Rattle.pair.specs.Causes.{pair_proper};
+ghost use Rattle.pair.specs.Causes.{pair_proper, pair_losing};
+ghost use Rattle.pair.specs.Writing.{pair_writing, pair_flushing};
+ghost use Rattle.pair.specs.Restarting.{pair_restarting};
 ghost use Rattle.pair.specs.Reading.{pair_reading};
 
 use crate::state::pair_state;
@@ -49,25 +51,25 @@ impl<A: Disk, B: Disk> Reader for Pair<A, B> {
 }
 
 impl<A: Disk, B: Disk> Disk for Pair<A, B> {
-    ghost writes = { Writes A.Reader A.Disk B.Reader B.Disk };
+    ghost writes = { Writes A.Reader A.Disk.own B.Reader B.Disk.own };
 
-    ghost barriers = { Barriers A.Reader A.Disk B.Reader B.Disk };
+    ghost barriers = { Barriers A.Reader A.Disk.own B.Reader B.Disk.own };
 
-    ghost restarts = { Restarts A.Reader A.Disk B.Reader B.Disk };
+    ghost restarts = { Restarts A.Reader A.Disk.own B.Reader B.Disk.own };
 
-    ghost bottoms = { bottoms_of A.Disk B.Disk };
+    ghost bottoms = { bottoms_of A.Disk.own B.Disk.own };
 
     ghost proper = { pair_proper A.Reader B.Reader A.Disk.proper B.Disk.proper };
 
     ghost reading = { pair_reading A.Reader B.Reader A.Disk.reading B.Disk.reading };
 
-    ghost writing = { ? };
+    ghost writing = { pair_writing A.Reader A.Disk.own B.Reader B.Disk.own A.Disk.writing B.Disk.writing };
 
-    ghost flushing = { ? };
+    ghost flushing = { pair_flushing A.Reader A.Disk.own B.Reader B.Disk.own A.Disk.flushing B.Disk.flushing };
 
-    ghost restarting = { ? };
+    ghost restarting = { pair_restarting A.Reader A.Disk.own B.Reader B.Disk.own A.Disk.proper A.Disk.reading B.Disk.writing B.Disk.flushing A.Disk.restarting B.Disk.restarting };
 
-    ghost losing = { ? };
+    ghost losing = { pair_losing A.Reader A.Disk.own B.Reader B.Disk.own A.Disk.losing B.Disk.losing };
 
     fn write(&mut self, block: u16, content: &Block) -> Result<(), Refusal> {
         self.write_by_steps(block, content)

@@ -17,7 +17,7 @@ pub(crate) fn write_in_turn<A: Disk, B: Disk>(
     block: u16,
     content: &Block,
 )
-    ensures { InTurn A.Reader B.Reader (WriteOf A.Disk block content.now) (WriteOf B.Disk block content.now) side0.old side1.old side0.new side1.new }
+    ensures { InTurn A.Reader B.Reader (WriteOf A.Disk.own block content.now) (WriteOf B.Disk.own block content.now) side0.old side1.old side0.new side1.new }
 {
     if !write_side(side0, block, content) {
         write_side(side1, block, content);

@@ -30,7 +30,7 @@ impl<A: Disk, B: Disk> Pair<A, B> {
     }
 
     pub(super) fn write_by_steps(&mut self, block: u16, content: &Block) -> Result<(), Refusal>
-        ensures { Writes A.Reader A.Disk B.Reader B.Disk self.old block content.now (answer_values result) self.new }
+        ensures { Writes A.Reader A.Disk.own B.Reader B.Disk.own self.old block content.now (answer_values result) self.new }
     {
         if block >= self.side0.size() {
             return Err(Refusal::PastEnd);
@@ -41,7 +41,7 @@ impl<A: Disk, B: Disk> Pair<A, B> {
     }
 
     pub(super) fn barrier_by_steps(&mut self) -> Result<(), Refusal>
-        ensures { Barriers A.Reader A.Disk B.Reader B.Disk self.old (answer_values result) self.new }
+        ensures { Barriers A.Reader A.Disk.own B.Reader B.Disk.own self.old (answer_values result) self.new }
     {
         self.state().answer()?;
         barrier_in_turn(&mut self.side0, &mut self.side1);

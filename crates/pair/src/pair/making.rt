@@ -16,7 +16,7 @@ impl<A: Disk, B: Disk> Pair<A, B> {
         ensures sound { A.Reader.sound side0 → B.Reader.sound side1 → IfOk result (λ p. Sound A.Reader B.Reader p) }
         ensures height { OneHigher A.Reader B.Reader }
         ensures dead { DeadIfBoth A.Reader B.Reader }
-        ensures bottoms { DeadWithBottoms A.Reader A.Disk B.Reader B.Disk }
+        ensures bottoms { DeadWithBottoms A.Reader A.Disk.own B.Reader B.Disk.own }
         ensures lost { LostExactly }
         ensures stand { FacesStandToo A.Reader B.Reader }
     {

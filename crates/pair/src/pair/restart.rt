@@ -14,7 +14,7 @@ use disks::state::State;
 impl<A: Disk, B: Disk> Pair<A, B> {
     // The sides' states say all: whether the copy is complete, and with it whether the pair is joined.
     pub(super) fn restart_by_steps(&mut self) -> Result<(), Refusal>
-        ensures { Restarts A.Reader A.Disk B.Reader B.Disk self.old (answer_values result) self.new }
+        ensures { Restarts A.Reader A.Disk.own B.Reader B.Disk.own self.old (answer_values result) self.new }
     {
         if let State::Dead(cause) = self.state() {
             return Err(Refusal::Lost(cause));
@@ -27,7 +27,7 @@ impl<A: Disk, B: Disk> Pair<A, B> {
 }
 
 fn restart_sides<A: Disk, B: Disk>(side0: &mut A, side1: &mut B)
-    ensures { RestartsSides A.Reader A.Disk B.Disk side0.old side1.old side0.new side1.new }
+    ensures { RestartsSides A.Reader A.Disk.own B.Disk.own side0.old side1.old side0.new side1.new }
 {
     let answer0 = side0.restart();
     if is_dark(&answer0) {

@@ -14,7 +14,7 @@ use Rattle.pair.specs.Restarts.{is_done, CopiesOver, RestartsSides, Restarts, Re
 use Rattle.pair.specs.States.{NotDark, on_living, on_not_dark, Lives, both, only0, only1, lives, dead_not_dark, face0, face1, pair_waits}
 use Rattle.pair.specs.Refusing.{unchanged}
 use Rattle.pair.specs.Parts.{DarkAs, dark_as}
-use Rattle.pair.proofs.Copying.{CopiedOver, Both, copied_over}
+use Rattle.pair.specs.Copying.{CopiedOver, Both, copied_over}
 
 -- what the restart leaves of the sides
 record Restarted (v w v' w' : View) : Type 0 where
