@@ -1,4 +1,6 @@
 // The comparison of the plans of two stores, address by address.
+#![tactic(auto)]
+
 pub mod comparison;
 pub mod difference;
 pub mod images;

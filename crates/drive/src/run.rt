@@ -19,7 +19,7 @@ pub struct Transcript {
 
 // Makes the calls of the script in order, up to the first line that is of no such form.
 pub fn run<D: Disk>(heap: Global, disk: &mut D, script: &[u8]) -> Result<Transcript, AllocError>
-    ensures { IfOk result (λ o. Runs D.Reader D.Disk (lines script.now) disk.old (string_bytes o.text) o.whole disk.new) }
+    ensures { IfOk result (λ o. Runs D.Reader D.Disk.own (lines script.now) disk.old (string_bytes o.text) o.whole disk.new) }
 {
     let mut text = String::new(heap);
     let mut rest = script;
@@ -37,7 +37,7 @@ pub fn run<D: Disk>(heap: Global, disk: &mut D, script: &[u8]) -> Result<Transcr
 
 // Makes one call; its line.
 pub fn make_call<D: Disk>(heap: Global, disk: &mut D, call: DiskCall) -> Result<String, AllocError>
-    ensures { IfOk result (λ s. Makes D.Reader D.Disk call disk.old (string_bytes s) disk.new) }
+    ensures { IfOk result (λ s. Makes D.Reader D.Disk.own call disk.old (string_bytes s) disk.new) }
 {
     match call {
         DiskCall::Read(block) => {

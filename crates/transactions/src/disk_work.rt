@@ -13,7 +13,7 @@ use store::look::FIRST_HOME;
 
 // Writes the header between two barriers: all that it speaks of stands before it, and it stands itself.
 pub(crate) fn put_header<D: Disk>(disk: &mut D, header: &Header) -> Result<(), Refusal>
-    ensures { heading D.Reader D.Disk (header_values header.now) disk.old (answer_values result) disk.new }
+    ensures { heading D.Reader D.Disk.own (header_values header.now) disk.old (answer_values result) disk.new }
 {
     let bytes = header.pack();
     disk.barrier()?;
@@ -23,7 +23,7 @@ pub(crate) fn put_header<D: Disk>(disk: &mut D, header: &Header) -> Result<(), R
 
 // Brings the blocks of the header's log home, and then empties the log.
 pub(crate) fn settle_log<D: Disk>(disk: &mut D, header: &Header) -> Result<(), Refusal>
-    ensures { settling D.Reader D.Disk (header_values header.now).n (header_values header.now).log disk.old (answer_values result) disk.new }
+    ensures { settling D.Reader D.Disk.own (header_values header.now).n (header_values header.now).log disk.old (answer_values result) disk.new }
 {
     if header.log().len() == 0 {
         return Ok(());
@@ -33,7 +33,7 @@ pub(crate) fn settle_log<D: Disk>(disk: &mut D, header: &Header) -> Result<(), R
 }
 
 fn clear_log<D: Disk>(disk: &mut D, header: &Header) -> Result<(), Refusal>
-    ensures { heading D.Reader D.Disk (empty (header_values header.now).n) disk.old (answer_values result) disk.new }
+    ensures { heading D.Reader D.Disk.own (empty (header_values header.now).n) disk.old (answer_values result) disk.new }
 {
     let mut settled = *header;
     settled.truncate(0);
@@ -43,7 +43,7 @@ fn clear_log<D: Disk>(disk: &mut D, header: &Header) -> Result<(), Refusal>
 // The block of slot 1 + i goes to the home of address i of the log.
 fn copy_home<D: Disk>(disk: &mut D, log: &[u16]) -> Result<(), Refusal>
     requires { (length log.now ≤ 32) × (((i : ℕ) → i < length log.now → slice_index log.now i < 4096)) }
-    ensures { copying_home D.Reader D.Disk 1 log.now disk.old (answer_values result) disk.new }
+    ensures { copying_home D.Reader D.Disk.own 1 log.now disk.old (answer_values result) disk.new }
 {
     for (i, address) in log.iter().enumerate() {
         copy_block(disk, 1 + i as u16, FIRST_HOME + *address)?;
@@ -52,7 +52,7 @@ fn copy_home<D: Disk>(disk: &mut D, log: &[u16]) -> Result<(), Refusal>
 }
 
 fn copy_block<D: Disk>(disk: &mut D, from: u16, to: u16) -> Result<(), Refusal>
-    ensures { copying D.Reader D.Disk from to disk.old (answer_values result) disk.new }
+    ensures { copying D.Reader D.Disk.own from to disk.old (answer_values result) disk.new }
 {
     let mut place = [0u8; BLOCK_BYTES];
     disk.read(from, &mut place)?;

@@ -1,4 +1,6 @@
 // The store: transactions over any disk.
+#![tactic(auto)]
+
 mod disk_work;
 pub mod phase;
 mod recovery;

@@ -19,7 +19,7 @@ use store::look::{FIRST_HOME, plan_size, read_header};
 
 // Restarts the disk and brings home what its log holds. It gives the header that stands then, with N and an empty log.
 pub(crate) fn recover<D: Disk>(disk: &mut D) -> Result<Header, StoreRefusal>
-    ensures { Recovers D.Reader D.Disk disk.old (recovered result) disk.new }
+    ensures { Recovers D.Reader D.Disk.own disk.old (recovered result) disk.new }
 {
     let Some(n) = plan_size(disk.size()) else {
         return Err(StoreRefusal::UnfitSize);
@@ -33,7 +33,7 @@ pub(crate) fn recover<D: Disk>(disk: &mut D) -> Result<Header, StoreRefusal>
 
 // Restarts the disk and makes it that of a new store: zeros at every address, and the header.
 pub(crate) fn format_disk<D: Disk>(disk: &mut D, header: &Header) -> Result<(), Refusal>
-    ensures { header_values header.now ≡ empty header.now.n → formatting D.Reader D.Disk header.now.n disk.old (answer_values result) disk.new }
+    ensures { header_values header.now ≡ empty header.now.n → formatting D.Reader D.Disk.own header.now.n disk.old (answer_values result) disk.new }
 {
     disk.restart()?;
     write_zeros(disk, header.n())?;
@@ -45,7 +45,7 @@ pub(crate) fn format_disk<D: Disk>(disk: &mut D, header: &Header) -> Result<(), 
 // Zeros to every home block.
 fn write_zeros<D: Disk>(disk: &mut D, n: u16) -> Result<(), Refusal>
     requires { n ≤ 4096 }
-    ensures { zeroing D.Reader D.Disk (home 0) n disk.old (answer_values result) disk.new }
+    ensures { zeroing D.Reader D.Disk.own (home 0) n disk.old (answer_values result) disk.new }
 {
     let zeros = [0u8; BLOCK_BYTES];
     for address in 0..n {

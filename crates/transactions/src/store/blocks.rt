@@ -23,7 +23,7 @@ impl<D: Disk> Store<D> {
         address: u16,
         content: &Block,
     ) -> Result<(), StoreRefusal>
-        ensures steps { Writes D.Reader D.Disk (store_values self.old) address content.now (store_answer result) (store_values self.new) }
+        ensures steps { Writes D.Reader D.Disk.own (store_values self.old) address content.now (store_answer result) (store_values self.new) }
         ensures tied { Tied D.Reader (store_values self.old) → Tied D.Reader (store_values self.new) }
         ensures inside { Tied D.Reader (store_values self.old) → store_answer result ≢ Refused (DiskRefused PastEnd) }
         ensures examples { WriteExamples D }
@@ -33,7 +33,7 @@ impl<D: Disk> Store<D> {
 
     // Puts into the place the block at the address, as the open transaction has it.
     pub fn read(&mut self, address: u16, place: &mut Block) -> Result<(), StoreRefusal>
-        ensures steps { Reads D.Reader D.Disk (store_values self.old) address (store_shown result place.new) (store_values self.new) }
+        ensures steps { Reads D.Reader D.Disk.own (store_values self.old) address (store_shown result place.new) (store_values self.new) }
         ensures place { Untouched result place.old place.new }
         ensures tied { Tied D.Reader (store_values self.old) → Tied D.Reader (store_values self.new) }
         ensures inside { Tied D.Reader (store_values self.old) → store_shown result place.new ≢ Refused (DiskRefused PastEnd) }
@@ -42,7 +42,7 @@ impl<D: Disk> Store<D> {
     }
 
     fn write_by_steps(&mut self, address: u16, content: &Block) -> Result<(), StoreRefusal>
-        ensures { Writes D.Reader D.Disk (store_values self.old) address content.now (store_answer result) (store_values self.new) }
+        ensures { Writes D.Reader D.Disk.own (store_values self.old) address content.now (store_answer result) (store_values self.new) }
     {
         if !self.out {
             return Err(StoreRefusal::NoTicket);
@@ -61,7 +61,7 @@ impl<D: Disk> Store<D> {
     }
 
     fn read_by_steps(&mut self, address: u16, place: &mut Block) -> Result<(), StoreRefusal>
-        ensures steps { Reads D.Reader D.Disk (store_values self.old) address (store_shown result place.new) (store_values self.new) }
+        ensures steps { Reads D.Reader D.Disk.own (store_values self.old) address (store_shown result place.new) (store_values self.new) }
         ensures place { Untouched result place.old place.new }
     {
         if self.is_down() {

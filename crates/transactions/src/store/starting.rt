@@ -17,7 +17,7 @@ use store::header::Header;
 impl<D: Disk> Store<D> {
     // Brings the store up with the plan that its disk holds.
     pub fn restart(&mut self) -> Result<(), StoreRefusal>
-        ensures steps { Restarts D.Reader D.Disk (store_values self.old) (store_answer result) (store_values self.new) }
+        ensures steps { Restarts D.Reader D.Disk.own (store_values self.old) (store_answer result) (store_values self.new) }
         ensures tied { Tied D.Reader (store_values self.old) → Tied D.Reader (store_values self.new) }
         ensures inside { Tied D.Reader (store_values self.old) → store_answer result ≢ Refused (DiskRefused PastEnd) }
     {
@@ -26,7 +26,7 @@ impl<D: Disk> Store<D> {
 
     // Brings the store up with a plan of zeros.
     pub fn format(&mut self) -> Result<(), StoreRefusal>
-        ensures steps { Formats D.Reader D.Disk (store_values self.old) (store_answer result) (store_values self.new) }
+        ensures steps { Formats D.Reader D.Disk.own (store_values self.old) (store_answer result) (store_values self.new) }
         ensures tied { Tied D.Reader (store_values self.old) → Tied D.Reader (store_values self.new) }
         ensures inside { Tied D.Reader (store_values self.old) → store_answer result ≢ Refused (DiskRefused PastEnd) }
     {
@@ -34,7 +34,7 @@ impl<D: Disk> Store<D> {
     }
 
     fn restart_by_steps(&mut self) -> Result<(), StoreRefusal>
-        ensures { Restarts D.Reader D.Disk (store_values self.old) (store_answer result) (store_values self.new) }
+        ensures { Restarts D.Reader D.Disk.own (store_values self.old) (store_answer result) (store_values self.new) }
     {
         if self.out {
             return Err(StoreRefusal::TicketOut);
@@ -62,7 +62,7 @@ impl<D: Disk> Store<D> {
     }
 
     fn format_by_steps(&mut self) -> Result<(), StoreRefusal>
-        ensures { Formats D.Reader D.Disk (store_values self.old) (store_answer result) (store_values self.new) }
+        ensures { Formats D.Reader D.Disk.own (store_values self.old) (store_answer result) (store_values self.new) }
     {
         if self.out {
             return Err(StoreRefusal::TicketOut);

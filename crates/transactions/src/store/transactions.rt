@@ -23,7 +23,7 @@ impl<D: Disk> Store<D> {
 
     // Puts the open writes into the plan, all of them or none.
     pub fn commit(&mut self, ticket: Ticket) -> Result<(), StoreRefusal>
-        ensures steps { Commits D.Reader D.Disk (store_values self.old) (store_answer result) (store_values self.new) }
+        ensures steps { Commits D.Reader D.Disk.own (store_values self.old) (store_answer result) (store_values self.new) }
         ensures tied { Tied D.Reader (store_values self.old) → Tied D.Reader (store_values self.new) }
         ensures inside { Tied D.Reader (store_values self.old) → store_answer result ≢ Refused (DiskRefused PastEnd) }
     {
@@ -42,7 +42,7 @@ impl<D: Disk> Store<D> {
 
     // Brings the logged blocks home, so that the log is empty again.
     pub fn settle(&mut self) -> Result<(), StoreRefusal>
-        ensures steps { Settles D.Reader D.Disk (store_values self.old) (store_answer result) (store_values self.new) }
+        ensures steps { Settles D.Reader D.Disk.own (store_values self.old) (store_answer result) (store_values self.new) }
         ensures tied { Tied D.Reader (store_values self.old) → Tied D.Reader (store_values self.new) }
         ensures inside { Tied D.Reader (store_values self.old) → store_answer result ≢ Refused (DiskRefused PastEnd) }
     {
@@ -64,7 +64,7 @@ impl<D: Disk> Store<D> {
     }
 
     fn commit_by_steps(&mut self) -> Result<(), StoreRefusal>
-        ensures { Commits D.Reader D.Disk (store_values self.old) (store_answer result) (store_values self.new) }
+        ensures { Commits D.Reader D.Disk.own (store_values self.old) (store_answer result) (store_values self.new) }
     {
         if !self.out {
             return Err(StoreRefusal::NoTicket);
@@ -102,7 +102,7 @@ impl<D: Disk> Store<D> {
     }
 
     fn settle_by_steps(&mut self) -> Result<(), StoreRefusal>
-        ensures { Settles D.Reader D.Disk (store_values self.old) (store_answer result) (store_values self.new) }
+        ensures { Settles D.Reader D.Disk.own (store_values self.old) (store_answer result) (store_values self.new) }
     {
         if self.is_down() {
             return Err(StoreRefusal::StoreDown);

@@ -11,7 +11,7 @@ returns c =
     let Told : List ℕ → List ℕ → Type 0 = λ p q.
     Answers (shared (whole_blocks p) (whole_blocks q)) (bytes_view p) (bytes_view q) (outcome c.compare.result) On On
     × IfOk c.compare.result (λ r. (r.compared ≡ shared (whole_blocks p) (whole_blocks q)) × (r.only ≡ lone (whole_blocks p) (whole_blocks q))) in
-    let m = c.compare.ensures.means c.new-old-image.ensures.sound c.new-new-image.ensures.sound in
-    let images = subst (λ (p : List ℕ). Told p c.new-new-image.result.bytes.now) c.new-old-image.ensures.bytes (m.2.answer, c.compare.ensures.counts) in
-    let bytes = subst (Told c.args.old.now) c.new-new-image.ensures.bytes images in
+    let m = c.compare.ensures.means c.new-old_image.ensures.sound c.new-new_image.ensures.sound in
+    let images = subst (λ (p : List ℕ). Told p c.new-new_image.result.bytes.now) c.new-old_image.ensures.bytes (m.2.answer, c.compare.ensures.counts) in
+    let bytes = subst (Told c.args.old.now) c.new-new_image.ensures.bytes images in
     record { answer = bytes.0; counts = bytes.1 }

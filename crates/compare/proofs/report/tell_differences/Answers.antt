@@ -14,8 +14,8 @@ line_more ds i none text line lt e f =
 
 pub loop-difference-preserved : goal.loop-difference-preserved
 loop-difference-preserved c =
-    c.in-ok-push-str.ensures.bytes
-    ∙ line_more c.args.differences.now c.loop-difference.difference-index _ _ _ (omega arith) c.loop-difference.invariant (c.as-str.ensures.value ∙ c.in-ok-line.ensures)
+    c.in_ok-push_str.ensures.bytes
+    ∙ line_more c.args.differences.now c.loop-difference.difference-index _ _ _ (omega arith) c.loop-difference.invariant (c.as_str.ensures.value ∙ c.in_ok-line.ensures)
 
 pub returns : goal.returns
 returns c = c.loop-difference.invariant ∙ ap difference_lines (take_all c.loop-difference.difference-index c.args.differences.now (omega arith))

@@ -6,5 +6,5 @@ use Rattle.transactions.proofs.store.Store.abandon.Goals as goal
 pub returns : goal.returns
 returns g c =
     let s = c.args.self.now in
-    let t = c.abandon-by-steps.new.self in
-    record { steps = c.abandon-by-steps.ensures; tied = λ tie. (abandons_kept g.D.Reader g.D.Disk (store_values s) (store_values t) _ tie (ordered t) c.abandon-by-steps.ensures).tied }
+    let t = c.abandon_by_steps.new.self in
+    record { steps = c.abandon_by_steps.ensures; tied = λ tie. (abandons_kept g.D.Reader g.D.Disk (store_values s) (store_values t) _ tie (ordered t) c.abandon_by_steps.ensures).tied }

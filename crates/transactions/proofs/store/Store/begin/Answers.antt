@@ -6,5 +6,5 @@ use Rattle.transactions.proofs.store.Store.begin.Goals as goal
 pub returns : goal.returns
 returns g c =
     let s = c.args.self.now in
-    let t = c.begin-by-steps.new.self in
-    record { steps = c.begin-by-steps.ensures; tied = λ tie. (begins_kept g.D.Reader g.D.Disk (store_values s) (store_values t) _ tie (ordered t) c.begin-by-steps.ensures).tied }
+    let t = c.begin_by_steps.new.self in
+    record { steps = c.begin_by_steps.ensures; tied = λ tie. (begins_kept g.D.Reader g.D.Disk (store_values s) (store_values t) _ tie (ordered t) c.begin_by_steps.ensures).tied }

@@ -21,13 +21,13 @@ some_open xs k n e ne within = let l = length-drop k xs in omega arith
 pub returns-then-log-self : goal.returns-then-log-self
 returns-then-log-self g c =
     let s = c.args.self.now in
-    let up : is_down s.phase ≡ false = sym c.is-down.ensures ∙ c.if-is-down.false in
+    let up : is_down s.phase ≡ false = sym c.is_down.ensures ∙ c.if-is_down.false in
     let none : drop s.logged (header_values s.table).log ≡ [] = drop_all s.logged (header_values s.table).log (omega (arith, ap length c.log.ensures)) in
     commits_nothing g.D.Reader g.D.Disk (store_values s) (store_values c.close-then-log-self.new.self) (Ok tt) c.if-not-self.false up none refl
     (c.close-then-log-self.ensures ∙ ap (λ (p : Phase). at s.disk p false s.table.n (take s.logged (header_values s.table).log) []) (up_closed s.phase up))
 
-pub invariant-of-self : goal.invariant-of-self
-invariant-of-self g c =
+pub invariant_of-self : goal.invariant_of-self
+invariant_of-self g c =
     let s = c.args.self.now in
     let l = ap length c.log-in-Ok.ensures in
     (omega arith, (s.opens, ((λ _. l), tt)))
@@ -40,9 +40,9 @@ put g s q m w = subst (λ (xs : List ℕ). heading g.D.Reader g.D.Disk (record {
 pub returns-in-Ok : goal.returns-in-Ok
 returns-in-Ok g c =
     let s = c.args.self.now in
-    let m = c.put-header.new.disk in
+    let m = c.put_header.new.disk in
     let xs = (header_values s.table).log in
-    let up : is_down s.phase ≡ false = sym c.is-down.ensures ∙ c.if-is-down.false in
+    let up : is_down s.phase ≡ false = sym c.is_down.ensures ∙ c.if-is_down.false in
     let all : take (length c.log-in-Ok.result.now) xs ≡ (store_values s).logged ++ (store_values s).opened =
     take_all _ xs (omega (arith, ap length c.log-in-Ok.ensures)) ∙ sym (take-append-drop s.logged xs) in
     commits_log g.D.Reader g.D.Disk (store_values s) (store_values c.close-in-Ok.new.self) (Ok tt) c.if-not-self.false up (Ok tt) m
@@ -52,9 +52,9 @@ returns-in-Ok g c =
 pub returns-in-Err : goal.returns-in-Err
 returns-in-Err g c =
     let s = c.args.self.now in
-    let m = c.put-header.new.disk in
+    let m = c.put_header.new.disk in
     let xs = (header_values s.table).log in
-    let up : is_down s.phase ≡ false = sym c.is-down.ensures ∙ c.if-is-down.false in
+    let up : is_down s.phase ≡ false = sym c.is_down.ensures ∙ c.if-is_down.false in
     let e = refusal_values c.in-Err.e in
     commits_log g.D.Reader g.D.Disk (store_values s) (store_values c.close-in-Err.new.self) (Err (Disk e)) c.if-not-self.false up (Err e) m
     (some_open xs s.logged _ (ap length c.log.ensures) c.if-log-self.false s.within) (put g s (Err e) m c.in-Err.ensures) refl c.close-in-Err.ensures

@@ -19,11 +19,11 @@ both s = ap length (take-append-drop s.logged (header_values s.table).log)
 grown : (h t : HeaderValues) (a : ℕ) → t ≡ with_address h a → length h.log ≤ length t.log
 grown h t a e = subst (λ (k : HeaderValues). length h.log ≤ length k.log) (sym e) (cond_both (has_room h a) (record { n = h.n; log = h.log ++ (a ∷ []) }) h (λ (k : HeaderValues). length h.log ≤ length k.log) (λ _. let l = length-append h.log (a ∷ []) in omega arith) (λ _. omega arith))
 
-pub returns-then-is-some : goal.returns-then-is-some
-returns-then-is-some g c = notes_again (store_values c.args.self.now) c.args.address _ _ c.open-slot-open.ensures (sym c.if-is-some.ensures) refl
+pub returns-then-is_some : goal.returns-then-is_some
+returns-then-is_some g c = notes_again (store_values c.args.self.now) c.args.address _ _ c.open_slot-open.ensures (sym c.if-is_some.ensures) refl
 
-pub invariant-of-self : goal.invariant-of-self
-invariant-of-self g c =
+pub invariant_of-self : goal.invariant_of-self
+invariant_of-self g c =
     let s = c.args.self.now in
     let l = grown (header_values s.table) _ c.args.address c.push.ensures.after in
     (let w = s.within in omega arith, (s.opens, ((λ e. absurd (true≢false (sym c.requires ∙ e))), tt)))
@@ -32,18 +32,18 @@ pub returns-then-not-push : goal.returns-then-not-push
 returns-then-not-push g c =
     let s = c.args.self.now in
     let none = has_room_false (header_values s.table) c.args.address (sym c.push.ensures.room ∙ c.if-not-push.true) in
-    let shut = ap is_some (sym c.open-slot-open.ensures) ∙ sym c.is-some.ensures ∙ c.if-is-some.false in
+    let shut = ap is_some (sym c.open_slot-open.ensures) ∙ sym c.is_some.ensures ∙ c.if-is_some.false in
     notes_full (store_values s) c.args.address _ shut (λ lt. let b = both s in let n = none.0 lt in omega arith) (ap (λ (h : HeaderValues). at s.disk s.phase s.out h.n (take s.logged h.log) (drop s.logged h.log)) (c.push.ensures.after ∙ none.1))
 
-pub overflow-cast-result : goal.overflow-cast-result
-overflow-cast-result g c = let few = (header_in_range c.push.new.self).few in omega (arith, ap length c.log.ensures)
+pub overflow_cast-result : goal.overflow_cast-result
+overflow_cast-result g c = let few = (header_in_range c.push.new.self).few in omega (arith, ap length c.log.ensures)
 
 pub returns : goal.returns
 returns g c =
     let s = c.args.self.now in
     let h = header_values s.table in
     let some = has_room_true h c.args.address (sym c.push.ensures.room ∙ c.if-not-push.false) in
-    let shut = ap is_some (sym c.open-slot-open.ensures) ∙ sym c.is-some.ensures ∙ c.if-is-some.false in
+    let shut = ap is_some (sym c.open_slot-open.ensures) ∙ sym c.is_some.ensures ∙ c.if-is_some.false in
     let is : header_values c.push.new.self ≡ record { n = h.n; log = h.log ++ (c.args.address ∷ []) } = c.push.ensures.after ∙ some.1 in
     let more = ap (λ (k : HeaderValues). length k.log) is in
     let one = length-append h.log (c.args.address ∷ []) in

@@ -22,11 +22,11 @@ module _ {D : Type 0} (s : Store D) (a : ℕ) (o : Option ℕ) (v : (d : ℕ) �
   new : s.logged < unwrap_or o 0 → Some (unwrap_or o 0) ≡ open_slot (store_values s) a
   new lt = slot_open (store_values s) a o searched (let l = long in omega arith)
 
-pub returns-in-err-slot : goal.returns-in-err-slot
-returns-in-err-slot g c = rw c.from-residual.ensures (old c.args.self.now c.args.address None c.in-err-slot.ensures.value (omega arith))
+pub returns-in_err-slot : goal.returns-in_err-slot
+returns-in_err-slot g c = rw c.from_residual.ensures (old c.args.self.now c.args.address None c.in_err-slot.ensures.value (omega arith))
 
 pub returns-then-slot-self : goal.returns-then-slot-self
-returns-then-slot-self g c = new c.args.self.now c.args.address (Some c.in-ok-slot.slot) c.in-ok-slot.ensures.value (omega arith)
+returns-then-slot-self g c = new c.args.self.now c.args.address (Some c.in_ok-slot.slot) c.in_ok-slot.ensures.value (omega arith)
 
 pub returns-else-slot-self : goal.returns-else-slot-self
-returns-else-slot-self g c = old c.args.self.now c.args.address (Some c.in-ok-slot.slot) c.in-ok-slot.ensures.value (omega arith)
+returns-else-slot-self g c = old c.args.self.now c.args.address (Some c.in_ok-slot.slot) c.in_ok-slot.ensures.value (omega arith)

@@ -7,6 +7,6 @@ use Rattle.transactions.proofs.store.Store.read.Goals as goal
 pub returns : goal.returns
 returns g c =
     let s = c.args.self.now in
-    let t = c.read-by-steps.new.self in
+    let t = c.read_by_steps.new.self in
     let laws : Lawful g.D.Reader g.D.Disk = record { proper = g.met.D.Disk.proper; reading = g.met.D.Disk.reading; writing = g.met.D.Disk.writing; flushing = g.met.D.Disk.flushing; restarting = g.met.D.Disk.restarting } in
-    record { steps = c.read-by-steps.ensures.steps; place = c.read-by-steps.ensures.place; tied = λ tie. (reads_kept g.D.Reader g.D.Disk laws (store_values s) (store_values t) c.args.address _ tie (ordered t) c.read-by-steps.ensures.steps).tied; inside = λ tie. (reads_kept g.D.Reader g.D.Disk laws (store_values s) (store_values t) c.args.address _ tie (ordered t) c.read-by-steps.ensures.steps).inside }
+    record { steps = c.read_by_steps.ensures.steps; place = c.read_by_steps.ensures.place; tied = λ tie. (reads_kept g.D.Reader g.D.Disk laws (store_values s) (store_values t) c.args.address _ tie (ordered t) c.read_by_steps.ensures.steps).tied; inside = λ tie. (reads_kept g.D.Reader g.D.Disk laws (store_values s) (store_values t) c.args.address _ tie (ordered t) c.read_by_steps.ensures.steps).inside }

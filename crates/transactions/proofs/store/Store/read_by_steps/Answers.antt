@@ -15,9 +15,9 @@ returns g c =
     let m = c.read-work.new.self in
     let b = c.read-work.new.place in
     let y = shown c.read-work.result b in
-    let up : is_down s.phase ≡ false = sym c.is-down.ensures ∙ c.if-is-down.false in
-    let k : c.unwrap-or-block.result ≡ block_for ((store_values s).logged ++ (store_values s).opened) a =
-    c.unwrap-or-block.ensures ∙ c.slot-of.ensures.value _ ∙ ap (λ (xs : List ℕ). newest 1 xs a (33 + a)) (sym (take-append-drop s.logged (header_values s.table).log)) in
+    let up : is_down s.phase ≡ false = sym c.is_down.ensures ∙ c.if-is_down.false in
+    let k : c.unwrap_or-block.result ≡ block_for ((store_values s).logged ++ (store_values s).opened) a =
+    c.unwrap_or-block.ensures ∙ c.slot_of.ensures.value _ ∙ ap (λ (xs : List ℕ). newest 1 xs a (33 + a)) (sym (take-append-drop s.logged (header_values s.table).log)) in
     record {
       steps =
           reads_at g.D.Reader g.D.Disk (store_values s) (store_values c.answer.new.self) m up a _ y (omega arith)

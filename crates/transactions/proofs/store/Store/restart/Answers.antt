@@ -7,6 +7,6 @@ use Rattle.transactions.proofs.store.Store.restart.Goals as goal
 pub returns : goal.returns
 returns g c =
     let s = c.args.self.now in
-    let t = c.restart-by-steps.new.self in
+    let t = c.restart_by_steps.new.self in
     let laws : Lawful g.D.Reader g.D.Disk = record { proper = g.met.D.Disk.proper; reading = g.met.D.Disk.reading; writing = g.met.D.Disk.writing; flushing = g.met.D.Disk.flushing; restarting = g.met.D.Disk.restarting } in
-    record { steps = c.restart-by-steps.ensures; tied = λ tie. (restarts_kept g.D.Reader g.D.Disk laws (store_values s) (store_values t) _ tie (ordered t) c.restart-by-steps.ensures).tied; inside = λ tie. (restarts_kept g.D.Reader g.D.Disk laws (store_values s) (store_values t) _ tie (ordered t) c.restart-by-steps.ensures).inside }
+    record { steps = c.restart_by_steps.ensures; tied = λ tie. (restarts_kept g.D.Reader g.D.Disk laws (store_values s) (store_values t) _ tie (ordered t) c.restart_by_steps.ensures).tied; inside = λ tie. (restarts_kept g.D.Reader g.D.Disk laws (store_values s) (store_values t) _ tie (ordered t) c.restart_by_steps.ensures).inside }

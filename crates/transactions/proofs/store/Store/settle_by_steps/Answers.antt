@@ -20,8 +20,8 @@ all_logged g s q m up shut w =
     let all : take s.logged (header_values s.table).log ≡ (header_values s.table).log = take_all s.logged (header_values s.table).log (omega arith) in
     subst (λ (xs : List ℕ). settling g.D.Reader g.D.Disk s.table.n xs s.disk q m) (sym all) w
 
-pub invariant-of-self : goal.invariant-of-self
-invariant-of-self g c =
+pub invariant_of-self : goal.invariant_of-self
+invariant_of-self g c =
     let s = c.args.self.now in
     let e = ap (λ (h : HeaderValues). length h.log) c.truncate.ensures in
     (omega arith, (s.opens, ((λ _. sym e), tt)))
@@ -29,17 +29,17 @@ invariant-of-self g c =
 pub returns-in-Ok : goal.returns-in-Ok
 returns-in-Ok g c =
     let s = c.args.self.now in
-    let m = c.settle-log.new.disk in
-    let up : is_down s.phase ≡ false = sym c.is-down.ensures ∙ c.if-is-down.false in
-    let shut : is_open s.phase ≡ false = sym c.is-open.ensures ∙ c.if-is-open.false in
+    let m = c.settle_log.new.disk in
+    let up : is_down s.phase ≡ false = sym c.is_down.ensures ∙ c.if-is_down.false in
+    let shut : is_open s.phase ≡ false = sym c.is_open.ensures ∙ c.if-is_open.false in
     settles_at g.D.Reader g.D.Disk (store_values s) _ m up (Ok tt) (Ok tt) shut (all_logged g s (Ok tt) m up shut c.in-Ok.ensures) refl
     (ap (λ (h : HeaderValues). at m s.phase s.out h.n [] h.log) c.truncate.ensures)
 
 pub returns-in-Err : goal.returns-in-Err
 returns-in-Err g c =
     let s = c.args.self.now in
-    let m = c.settle-log.new.disk in
+    let m = c.settle_log.new.disk in
     let e = refusal_values c.in-Err.e in
-    let up : is_down s.phase ≡ false = sym c.is-down.ensures ∙ c.if-is-down.false in
-    let shut : is_open s.phase ≡ false = sym c.is-open.ensures ∙ c.if-is-open.false in
+    let up : is_down s.phase ≡ false = sym c.is_down.ensures ∙ c.if-is_down.false in
+    let shut : is_open s.phase ≡ false = sym c.is_open.ensures ∙ c.if-is_open.false in
     settles_at g.D.Reader g.D.Disk (store_values s) _ m up (Err (Disk e)) (Err e) shut (all_logged g s (Err e) m up shut c.in-Err.ensures) refl refl

@@ -9,7 +9,7 @@ use Rattle.transactions.proofs.store.Store.write.Goals as goal
 pub returns : goal.returns
 returns g c =
     let s = c.args.self.now in
-    let t = c.write-by-steps.new.self in
+    let t = c.write_by_steps.new.self in
     let laws : Lawful g.D.Reader g.D.Disk = record { proper = g.met.D.Disk.proper; reading = g.met.D.Disk.reading; writing = g.met.D.Disk.writing; flushing = g.met.D.Disk.flushing; restarting = g.met.D.Disk.restarting } in
     let whole : Whole c.args.content.now = record { long = c.told-content; bytes = c.fits-content } in
-    record { steps = c.write-by-steps.ensures; tied = λ tie. (writes_kept g.D.Reader g.D.Disk laws (store_values s) (store_values t) c.args.address c.args.content.now _ whole tie (ordered t) c.write-by-steps.ensures).tied; inside = λ tie. (writes_kept g.D.Reader g.D.Disk laws (store_values s) (store_values t) c.args.address c.args.content.now _ whole tie (ordered t) c.write-by-steps.ensures).inside; examples = write_examples _ }
+    record { steps = c.write_by_steps.ensures; tied = λ tie. (writes_kept g.D.Reader g.D.Disk laws (store_values s) (store_values t) c.args.address c.args.content.now _ whole tie (ordered t) c.write_by_steps.ensures).tied; inside = λ tie. (writes_kept g.D.Reader g.D.Disk laws (store_values s) (store_values t) c.args.address c.args.content.now _ whole tie (ordered t) c.write_by_steps.ensures).inside; examples = write_examples _ }
