@@ -10,7 +10,7 @@ use Rattle.benchrun.proofs.input.run_on_buffered.Goals as goal
 pub returns : goal.returns
 returns c =
     let words = vec_items c.args.words in
-    let new = c.in-Ok.ensures.disk ∙ ap (λ (ws : List ℕ). new_bench ws (vec_items c.in-ok-memory.memory)) c.new.ensures.words ∙ ap (new_bench words) c.in-ok-memory.ensures in
+    let new = c.in-Ok.ensures.disk ∙ ap (λ (ws : List ℕ). new_bench ws (vec_items c.in_ok-memory.memory)) c.new.ensures.words ∙ ap (new_bench words) c.in_ok-memory.ensures in
     IfOk-weaker c.finish.result _ _
-    (λ s told. runs_new buffered_bench queue words _ (lines c.args.calls.now) _ _ _ _ _ new c.in-ok-transcript.ensures (c.deref.ensures.value ∙ c.into-memory-memory.ensures) told)
+    (λ s told. runs_new buffered_bench queue words _ (lines c.args.calls.now) _ _ _ _ _ new c.in_ok-transcript.ensures (c.deref.ensures.value ∙ c.into_memory-memory.ensures) told)
     c.finish.ensures

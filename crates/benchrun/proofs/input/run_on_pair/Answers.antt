@@ -11,8 +11,8 @@ new_of d words left memory zeros e f g = e ∙ (ap (λ (ws : List ℕ). new_benc
 pub unreachable-requires : goal.unreachable-requires
 unreachable-requires c =
     never_unpaired c.new-side0.result c.in-Ok.side1 (vec_items c.args.words0) (vec_items c.args.words1) _
-    (new_of _ _ _ _ _ c.new-side0.ensures.disk c.new.ensures.words c.in-ok-zeros.ensures)
-    (new_of _ _ _ _ _ c.in-Ok.ensures.disk c.new-2.ensures.words c.in-ok-zeros-2.ensures) _ c.in-default-new.ensures.value
+    (new_of _ _ _ _ _ c.new-side0.ensures.disk c.new.ensures.words c.in_ok-zeros.ensures)
+    (new_of _ _ _ _ _ c.in-Ok.ensures.disk c.new-2.ensures.words c.in_ok-zeros-2.ensures) _ c.in_default-new.ensures.value
 
 pub returns : goal.returns
 returns c = record {
@@ -20,9 +20,9 @@ returns c = record {
   side1 = c.in-Ok.side1;
   before = c.in-Ok-new.pair;
   after = c.run.new.disk;
-  whole = c.in-ok-text.field-0.whole;
-  new0 = new_of _ _ _ _ _ c.new-side0.ensures.disk c.new.ensures.words c.in-ok-zeros.ensures;
-  new1 = new_of _ _ _ _ _ c.in-Ok.ensures.disk c.new-2.ensures.words c.in-ok-zeros-2.ensures;
+  whole = c.in_ok-text.field-0.whole;
+  new0 = new_of _ _ _ _ _ c.new-side0.ensures.disk c.new.ensures.words c.in_ok-zeros.ensures;
+  new1 = new_of _ _ _ _ _ c.in-Ok.ensures.disk c.new-2.ensures.words c.in_ok-zeros-2.ensures;
   paired = sym c.in-Ok-new.ensures.value;
-  runs = c.in-ok-text.ensures;
+  runs = c.in_ok-text.ensures;
 }

@@ -11,6 +11,6 @@ byte_more memory k byte front text e f =
 
 pub loop-k-preserved : goal.loop-k-preserved
 loop-k-preserved c =
-    c.in-ok-push-str.ensures.bytes
-    ∙ ap (λ (t : List ℕ). string_bytes c.loop-k.text ++ t) (c.as-str.ensures.value ∙ c.in-ok-word.ensures.ok)
-    ∙ byte_more c.args.memory.now c.loop-k.k c.first-byte-first.result (codes "stands") (string_bytes c.loop-k.text) c.first-byte-first.ensures c.loop-k.invariant
+    c.in_ok-push_str.ensures.bytes
+    ∙ ap (λ (t : List ℕ). string_bytes c.loop-k.text ++ t) (c.as_str.ensures.value ∙ c.in_ok-word.ensures.ok)
+    ∙ byte_more c.args.memory.now c.loop-k.k c.first_byte-first.result (codes "stands") (string_bytes c.loop-k.text) c.first_byte-first.ensures c.loop-k.invariant

@@ -8,13 +8,13 @@ pub invariant_of-self : goal.invariant_of-self
 invariant_of-self g c =
     let s = c.args.self.now in
     let l = cut_long (header_values s.table) _ s.logged s.within c.truncate.ensures in
-    (omega arith, (refl, ((λ _. omega arith), tt)))
+    record { within = omega arith; opens = refl; closed = λ _. omega arith }
 
 pub invariant_of-self-in_default : goal.invariant_of-self-in_default
 invariant_of-self-in_default g c =
     let s = c.args.self.now in
     let l = cut_long (header_values s.table) _ s.logged s.within c.truncate.ensures in
-    (omega arith, ((not_open s.phase c.in_default.not-Open).0, ((λ _. omega arith), tt)))
+    record { within = omega arith; opens = (not_open s.phase c.in_default.not-Open).0; closed = λ _. omega arith }
 
 pub returns-in-Open : goal.returns-in-Open
 returns-in-Open g c =

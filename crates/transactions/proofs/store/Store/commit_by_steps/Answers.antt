@@ -30,7 +30,7 @@ pub invariant_of-self : goal.invariant_of-self
 invariant_of-self g c =
     let s = c.args.self.now in
     let l = ap length c.log-in-Ok.ensures in
-    (omega arith, (s.opens, ((λ _. l), tt)))
+    record { within = omega arith; opens = s.opens; closed = λ _. l }
 
 -- the header that was put is that of the logged and the open addresses
 put : (g : Over) (s : Store g.row.D.Denot) (q : Answer Unit) (m : _) → heading g.D.Reader g.D.Disk (header_values s.table) s.disk q m →

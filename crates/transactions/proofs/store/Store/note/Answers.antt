@@ -26,7 +26,11 @@ pub invariant_of-self : goal.invariant_of-self
 invariant_of-self g c =
     let s = c.args.self.now in
     let l = grown (header_values s.table) _ c.args.address c.push.ensures.after in
-    (let w = s.within in omega arith, (s.opens, ((λ e. absurd (true≢false (sym c.requires ∙ e))), tt)))
+    record {
+      within = let w = s.within in omega arith;
+      opens = s.opens;
+      closed = λ e. absurd (true≢false (sym c.requires ∙ e));
+    }
 
 pub returns-then-not-push : goal.returns-then-not-push
 returns-then-not-push g c =

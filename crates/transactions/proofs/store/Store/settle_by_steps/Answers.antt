@@ -24,7 +24,7 @@ pub invariant_of-self : goal.invariant_of-self
 invariant_of-self g c =
     let s = c.args.self.now in
     let e = ap (λ (h : HeaderValues). length h.log) c.truncate.ensures in
-    (omega arith, (s.opens, ((λ _. sym e), tt)))
+    record { within = omega arith; opens = s.opens; closed = λ _. sym e }
 
 pub returns-in-Ok : goal.returns-in-Ok
 returns-in-Ok g c =
