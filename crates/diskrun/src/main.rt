@@ -1,7 +1,10 @@
 // diskrun: makes the calls of a script, read from standard input, on a new bench disk.
+#![tactic(auto)]
+
 use benchrun::input::{INPUT_AT_MOST, run_input};
 use std::alloc::AllocError;
 use std::io::Read;
+use std::process::ExitCode;
 
 // Why there is no output: the line for standard error.
 #[derive(Drop)]
@@ -16,25 +19,21 @@ impl From<AllocError> for Failure {
     }
 }
 
-// The status alone: the reason was told.
-#[derive(Drop)]
-struct Failed;
-
-fn main(rt: HostRuntime) -> Result<(), Failed> {
+fn main(rt: HostRuntime) -> ExitCode {
     match run(&rt) {
         Ok(text) => match rt.print(text.as_str()) {
-            Ok(()) => Ok(()),
-            Err(_) => Err(tell(&rt, "diskrun: cannot write to standard output")),
+            Ok(()) => ExitCode::SUCCESS,
+            Err(_) => tell(&rt, "diskrun: cannot write to standard output"),
         },
-        Err(Failure::Unreadable) => Err(tell(&rt, "diskrun: standard input cannot be read")),
-        Err(Failure::NoMemory) => Err(tell(&rt, "diskrun: no memory")),
+        Err(Failure::Unreadable) => tell(&rt, "diskrun: standard input cannot be read"),
+        Err(Failure::NoMemory) => tell(&rt, "diskrun: no memory"),
     }
 }
 
-// What cannot be told on standard error cannot be told at all.
-fn tell(rt: &HostRuntime, line: &str) -> Failed {
+// The status says that it failed. What cannot be told on standard error cannot be told at all.
+fn tell(rt: &HostRuntime, line: &str) -> ExitCode {
     let _ = rt.eprintln(line);
-    Failed
+    ExitCode::FAILURE
 }
 
 fn run(rt: &HostRuntime) -> Result<String, Failure> {

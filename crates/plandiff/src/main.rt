@@ -1,8 +1,11 @@
 // plandiff OLD NEW: compares the plans of two stores that stand in files.
+#![tactic(auto)]
+
 use compare::images::compare_images;
 use compare::report::{report, stop_line, unreadable_line};
 use compare::room::Room;
 use std::alloc::AllocError;
+use std::process::ExitCode;
 use std::{env, fs};
 
 // Why there is no comparison: the line for standard error.
@@ -18,25 +21,21 @@ impl From<AllocError> for Failure {
     }
 }
 
-// The status alone: the reason was told.
-#[derive(Drop)]
-struct Failed;
-
-fn main(rt: HostRuntime) -> Result<(), Failed> {
+fn main(rt: HostRuntime) -> ExitCode {
     match run(&rt) {
         Ok(text) => match rt.print(text.as_str()) {
-            Ok(()) => Ok(()),
-            Err(_) => Err(tell(&rt, "plandiff: cannot write to standard output")),
+            Ok(()) => ExitCode::SUCCESS,
+            Err(_) => tell(&rt, "plandiff: cannot write to standard output"),
         },
-        Err(Failure::Line(line)) => Err(tell(&rt, line.as_str())),
-        Err(Failure::NoMemory) => Err(tell(&rt, "plandiff: no memory")),
+        Err(Failure::Line(line)) => tell(&rt, line.as_str()),
+        Err(Failure::NoMemory) => tell(&rt, "plandiff: no memory"),
     }
 }
 
-// What cannot be told on standard error cannot be told at all.
-fn tell(rt: &HostRuntime, line: &str) -> Failed {
+// The status says that it failed. What cannot be told on standard error cannot be told at all.
+fn tell(rt: &HostRuntime, line: &str) -> ExitCode {
     let _ = rt.eprintln(line);
-    Failed
+    ExitCode::FAILURE
 }
 
 fn run(rt: &HostRuntime) -> Result<String, Failure> {
