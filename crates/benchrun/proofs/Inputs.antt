@@ -1,5 +1,5 @@
 -- What an input that is not too long prints, by its lines.
-use Rattle.std.proofs.Common.{◌≡◌, ℕ, ◌≤◌, Bool, ltb, List, length, MatchBool, sym, subst}
+use Rattle.std.proofs.Common.{◌≡◌, ℕ, ◌≤◌, Bool, List, length, MatchBool, sym, subst}
 use Rattle.script.specs.Pieces.{lines}
 use Rattle.std.proofs.lemmas.Bool.{le-ltb}
 use Rattle.benchrun.specs.Output.{unknown, first_line, other_lines, Named, Prints}

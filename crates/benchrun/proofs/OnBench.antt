@@ -1,5 +1,5 @@
 -- A run on a disk that goes by a bench disk's definitions is a run of those.
-use Rattle.std.proofs.Common.{◌≡◌, ℕ, Bool, List, [], ◌∷◌, ◌++◌, Some, None, Option, sym, refl, ap, ◌∙◌, subst}
+use Rattle.std.proofs.Common.{◌≡◌, ℕ, Bool, List, [], ◌∷◌, ◌++◌, Some, None, Option, ap, ◌∙◌, subst}
 use Rattle.bench_disks.specs.Calls.{Bench, new_bench, reads, writes, barriers, restarts}
 use Rattle.bench_disks.specs.Waiting.{Held}
 use Rattle.disks.specs.Meaning.{Content, Shown}

@@ -1,5 +1,5 @@
 -- A new plain and a new buffered disk make a pair.
-use Rattle.std.proofs.Common.{◌≡◌, ℕ, Bool, true, false, cond, eqb, List, Ok, Err, Result, sym, ap, ◌∙◌, arith}
+use Rattle.std.proofs.Common.{◌≡◌, ℕ, Bool, false, cond, List, Ok, Err, Result, sym, ap, ◌∙◌, arith}
 use Rattle.std.proofs.lemmas.Bool.{eq-eqb}
 use Rattle.bench_disks.specs.Calls.{Bench, new_bench}
 use Rattle.bench_disks.specs.Disks.{plain_bench, buffered_bench}

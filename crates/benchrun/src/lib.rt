@@ -1,3 +1,5 @@
 // The whole run of diskrun: from the bytes of its input to the text that it prints.
+#![tactic(auto)]
+
 pub mod input;
 pub mod stands;

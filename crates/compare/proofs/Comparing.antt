@@ -1,12 +1,12 @@
 -- What a comparison means, from what each of its looks means.
-use Rattle.std.proofs.Common.{◌≡◌, ℕ, zero, suc, ◌+◌, ◌-◌, ◌<◌, min, Bool, true, false, cond, List, [], ◌++◌, Some, None, Ok, Err, Option, Result, unwrap_or, sym, refl, ap, ◌∙◌, subst, inl, inr, arith}
-use Rattle.disks.specs.Values.{StateValues, On}
+use Rattle.std.proofs.Common.{◌≡◌, ℕ, zero, suc, ◌-◌, ◌<◌, min, Bool, true, false, cond, List, ◌++◌, Some, None, Ok, Err, Option, unwrap_or, sym, refl, ap, ◌∙◌, subst, inl, inr, arith}
+use Rattle.disks.specs.Values.{On}
 use Rattle.disks.specs.Meaning.{View, Content, Off, Kept, FacesKeep, NoneGained, Unchanged}
 use Rattle.disks.proofs.Views.{same, kept_then, faces_then, gained_then, unchanged_then}
 use Rattle.disks.specs.declared.reader.Reader
 use Rattle.std.proofs.lemmas.Bool.{cases_lt, leb-true, and_parts}
 use Rattle.std.specs.Option.{option_to_list}
-use Rattle.store.specs.LookValues.{LookAnswer, LookRefusalValues}
+use Rattle.store.specs.LookValues.{LookAnswer}
 use Rattle.store.specs.Looks.{fit, Looks, look_answer}
 use Rattle.store.proofs.Looking.{answer_keeps, answer_on}
 use Rattle.compare.specs.Differences.{difference, differences}
@@ -14,7 +14,6 @@ use Rattle.compare.specs.Outcomes.{StopValues, Refused, Outcome}
 use Rattle.compare.specs.Compares.{shared, ComparesAt, Compared, Compares, LooksMeant, shows, block_in, plan, ShowsAll, Answers, Left, Meant, CompareMeans}
 use Rattle.compare.specs.declared.difference.Difference.{Difference}
 use Rattle.compare.proofs.Turns.{compares_to}
-use Rattle.compare.specs.declared.stop.Side.{Side}
 use Rattle.compare.specs.declared.stop.Side.TheVariants.{Old, New}
 
 -- one address at least is looked up

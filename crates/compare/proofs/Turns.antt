@@ -1,10 +1,10 @@
 -- The comparison's loop: one address more, or the refusal that ends it.
-use Rattle.std.proofs.Common.{◌≡◌, ℕ, zero, suc, ◌+◌, ◌<◌, List, ◌++◌, Ok, Err, Option, Result, sym, refl, ap, ◌∙◌, subst, add-one, arith}
+use Rattle.std.proofs.Common.{◌≡◌, ℕ, zero, suc, ◌+◌, ◌<◌, List, ◌++◌, Ok, Err, Option, sym, subst, add-one, arith}
 use Rattle.disks.specs.Meaning.{Content}
 use Rattle.std.specs.Option.{option_to_list}
 use Rattle.store.specs.LookValues.{LookAnswer, LookRefusalValues}
 use Rattle.compare.specs.Outcomes.{StopValues, Refused, Outcome}
-use Rattle.compare.specs.Compares.{compared_at, ComparesNew, ComparesAt, Compared, Compares}
+use Rattle.compare.specs.Compares.{ComparesAt, Compared, Compares}
 use Rattle.compare.specs.declared.difference.Difference.{Difference}
 use Rattle.compare.specs.declared.stop.Side.{Side}
 use Rattle.compare.specs.declared.stop.Side.TheVariants.{Old, New}

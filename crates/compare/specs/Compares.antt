@@ -1,5 +1,5 @@
 -- The comparison: its steps, look by look, and what it means.
-use Rattle.std.specs.Prelude.{◌≡◌, ℕ, zero, suc, ◌-◌, ◌<◌, min, false, cond, List, [], ◌++◌, Some, None, Ok, Err, Option, Result, nat_lt}
+use Rattle.std.specs.Prelude.{◌≡◌, ℕ, zero, suc, ◌-◌, ◌<◌, min, false, cond, List, [], ◌++◌, Some, None, Ok, Err, Option, nat_lt}
 use Rattle.disks.specs.Values.{StateValues, On}
 use Rattle.disks.specs.Meaning.{View, Content, Off, Kept, FacesKeep, NoneGained, Unchanged, Means}
 use Rattle.disks.specs.declared.reader.Reader
@@ -7,10 +7,9 @@ use Rattle.std.specs.Option.{unwrap_or, option_to_list}
 use Rattle.store.specs.LookValues.{LookAnswer}
 use Rattle.store.specs.Looks.{fit, plan_of, Looks, LookMeans, look_answer}
 use Rattle.compare.specs.Differences.{difference, differences}
-use Rattle.compare.specs.Outcomes.{StopValues, Refused, Outcome}
+use Rattle.compare.specs.Outcomes.{Refused, Outcome}
 use Rattle.compare.specs.declared.comparison.Only.{Only}
 use Rattle.compare.specs.declared.difference.Difference.{Difference}
-use Rattle.compare.specs.declared.stop.Side.{Side}
 use Rattle.compare.specs.declared.stop.Side.TheVariants.{Old, New}
 
 -- how many addresses two stores of these sizes share; where one is no store, one address is looked up all the same

@@ -6,7 +6,7 @@ use Rattle.std.proofs.lemmas.List.{drop-drop, length-take-le, length-append, len
 use Rattle.std.proofs.lemmas.Slice.{between_is, take-put_mid_below, drop-put_mid}
 use Rattle.std.proofs.lemmas.Bool.{cases_lt, lt-ltb, le-ltb}
 use Rattle.disks.specs.Meaning.{Content, Whole}
-use Rattle.disks.specs.Blocks.{whole_blocks, block_of, with_block, spare, BlocksApart}
+use Rattle.disks.specs.Blocks.{whole_blocks, block_of, with_block, BlocksApart}
 
 -- the way of a test on a block, below the size and past it
 pub below : {X : Type 0} (k n : ℕ) (x y : X) → k < n → cond (ltb k n) x y ≡ x

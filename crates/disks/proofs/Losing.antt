@@ -1,5 +1,5 @@
 -- A pile is lost exactly if every bottom disk is dead.
-use Rattle.std.proofs.Common.{◌≡◌, Bool, true, false, ◌&&◌, ◌⊎◌, refl, ap, ◌∙◌, inl, inr, ⊎_elim}
+use Rattle.std.proofs.Common.{◌≡◌, Bool, true, false, ◌&&◌, refl, ap, ◌∙◌, inl, inr, ⊎_elim}
 use borrow.Author.Tests.{clash}
 use Rattle.disks.specs.Piles.{bottom, joined, is_dead, lost, LostExactly}
 

@@ -1,4 +1,6 @@
 // The bottom layer: what a block, a cause, a state, a reader and a disk are, and the read-only image.
+#![tactic(auto)]
+
 pub mod block;
 pub mod cause;
 pub mod disk;

@@ -1,5 +1,5 @@
 -- Lines of too many words.
-use Rattle.std.proofs.Common.{◌≡◌, ℕ, List, [], ◌∷◌, Some, None, Option, sym, refl, ap, ◌∙◌, Bor}
+use Rattle.std.proofs.Common.{◌≡◌, ℕ, List, ◌∷◌, Some, None, Option, sym, ap, ◌∙◌, Bor}
 use Rattle.script.specs.Pieces.{pieces, pieces_in}
 use Rattle.script.proofs.Dividing.{pieces_some}
 use Rattle.drive.specs.Calls.{by_words}

@@ -1,7 +1,7 @@
 -- The words of a line, one after another.
-use Rattle.std.proofs.Common.{◌≡◌, ℕ, zero, suc, ◌+◌, ◌^◌, ◌<◌, ◌≤◌, List, [], ◌∷◌, ◌++◌, length, get_or, take, drop, Some, None, sym, refl, ap, ◌∙◌, subst, append_assoc, append-nil, arith, length-append}
+use Rattle.std.proofs.Common.{◌≡◌, ℕ, suc, ◌+◌, ◌^◌, ◌<◌, ◌≤◌, List, [], ◌∷◌, ◌++◌, length, get_or, take, drop, Some, None, sym, refl, ap, ◌∙◌, subst, append_assoc, append-nil, arith, length-append}
 use Rattle.std.proofs.ByRecursion.{All-push}
-use Rattle.std.proofs.lemmas.List.{take_at, drop_at, flat_map_more, length_push}
+use Rattle.std.proofs.lemmas.List.{take_at, drop_at, flat_map_more}
 use Rattle.std.specs.List.{flat_map, AllByRecursion as All}
 use Rattle.script.specs.Words.{word_text, spaced, schedule_text, LineSays, StartsNoWord, NoWord, SchedulesApart}
 use Rattle.script.proofs.Spelling.{length_word, words_apart}

@@ -1,5 +1,5 @@
 -- The numbers that digits write.
-use Rattle.std.specs.Prelude.{◌≡◌, ℕ, ◌^◌, ◌<◌, ◌≤◌, Bool, false, cond, ◌&&◌, List, [], ◌∷◌, Some, None, decimal, Option, nat_le}
+use Rattle.std.specs.Prelude.{◌≡◌, ℕ, ◌^◌, ◌<◌, ◌≤◌, cond, ◌&&◌, List, [], ◌∷◌, Some, None, decimal, Option, nat_le}
 use Rattle.std.specs.Str.Parse.{digits_value_after}
 use Rattle.std.specs.Str.{all_ascii_digits}
 

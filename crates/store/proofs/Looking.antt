@@ -1,5 +1,5 @@
 -- Look: its ends, step by step, and what they mean.
-use Rattle.std.proofs.Common.{◌≡◌, ℕ, suc, ◌+◌, ◌-◌, ◌<◌, ◌≤◌, Bool, true, false, cond, ◌&&◌, eqb, ltb, leb, ◌⊎◌, List, [], ◌∷◌, length, Some, None, Ok, Err, MatchBool, Option, Result, sym, refl, ap, ◌∙◌, subst, inl, inr, ⊎_elim, arith}
+use Rattle.std.proofs.Common.{◌≡◌, ℕ, suc, ◌+◌, ◌-◌, ◌<◌, ◌≤◌, Bool, true, false, cond, eqb, ltb, ◌⊎◌, List, [], ◌∷◌, length, Some, None, Ok, Err, MatchBool, Option, sym, refl, ap, ◌∙◌, subst, inl, inr, ⊎_elim, arith}
 use Rattle.disks.specs.Values.{StateValues, On, Dark, Dead, PastEnd, answer_by}
 use Rattle.disks.specs.Meaning.{View, Content, Shown, Off, Kept, FacesKeep, NoneGained, Unchanged, Means, ReadMeans, ReadOn}
 use Rattle.disks.proofs.Views.{same, on_or_off, kept_then, faces_then, gained_then}

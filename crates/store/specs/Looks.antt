@@ -1,5 +1,5 @@
 -- Look: what it finds, its steps on a reader, and what it means.
-use Rattle.std.specs.Prelude.{◌≡◌, ℕ, ◌-◌, Bool, true, false, cond, ◌&&◌, Some, None, Ok, Err, MatchBool, Option, Result, ◌==◌, nat_le, nat_lt}
+use Rattle.std.specs.Prelude.{◌≡◌, ℕ, ◌-◌, Bool, false, cond, ◌&&◌, Some, None, Ok, Err, MatchBool, Option, ◌==◌, nat_le, nat_lt}
 use Rattle.disks.specs.Values.{StateValues, On}
 use Rattle.disks.specs.Meaning.{View, Content, Shown, Off, Kept, FacesKeep, NoneGained, Unchanged, Means, ReadMeans}
 use Rattle.disks.specs.declared.reader.Reader

@@ -1,6 +1,6 @@
 -- What recovery leaves of a disk that keeps the meaning of one.
-use Rattle.std.proofs.Common.{◌≡◌, ℕ, ◌+◌, ◌<◌, ◌≤◌, Bool, true, false, cond, eqb, Some, None, Ok, Err, Option, sym, refl, ap, ◌∙◌, subst, arith}
-use Rattle.disks.specs.Values.{StateValues, On, RefusalValues, PastEnd, Answer, answer_by}
+use Rattle.std.proofs.Common.{◌≡◌, ℕ, ◌+◌, Bool, true, false, cond, eqb, Some, None, Ok, Err, Option, sym, refl, ap, ◌∙◌, subst, arith}
+use Rattle.disks.specs.Values.{On, RefusalValues, PastEnd, Answer}
 use Rattle.disks.specs.Meaning.{Content, Whole, Shown}
 use Rattle.disks.specs.declared.reader.Reader
 use Rattle.disks.specs.declared.disk.Disk
@@ -11,7 +11,7 @@ use Rattle.store.proofs.Looking.{header_is}
 use Rattle.store.proofs.Round.{exactly}
 use Rattle.transactions.specs.StoreAnswers.{StoreAnswer, Disk, from_look}
 use Rattle.transactions.specs.DiskWork.{IfDone, settling, emptied, SettlesHeader, RecoversAt}
-use Rattle.transactions.proofs.Fair.{Lawful, Fair, IsOn, done_on, shown_is, never_past, fair_restart, fair_reading, fair_settling}
+use Rattle.transactions.proofs.Fair.{Lawful, Fair, done_on, shown_is, never_past, fair_restart, fair_reading, fair_settling}
 
 -- a header that is not accepted
 header_refused : (n : ℕ) (o : Option HeaderValues) (e : look.LookRefusalValues) → header_of n o ≡ Err e → e ≡ look.NoHeader

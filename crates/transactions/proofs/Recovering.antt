@@ -1,14 +1,13 @@
 -- The ends of recovery, step by step.
-use Rattle.std.proofs.Common.{◌≡◌, ℕ, ◌-◌, Bool, true, false, eqb, Some, None, Ok, Err, Option, sym, refl, ap, ◌∙◌, subst, arith}
-use Rattle.disks.specs.Values.{RefusalValues, Answer}
-use Rattle.disks.specs.Meaning.{Shown}
+use Rattle.std.proofs.Common.{◌≡◌, ℕ, ◌-◌, Some, Ok, Err, refl, ap, subst}
+use Rattle.disks.specs.Values.{RefusalValues}
 use Rattle.disks.specs.declared.reader.Reader
 use Rattle.disks.specs.declared.disk.Disk
-use Rattle.store.specs.Layout.{HeaderValues, empty, unpacked}
-use Rattle.store.specs.LookValues.{LookAnswer, LookRefusalValues}
+use Rattle.store.specs.Layout.{HeaderValues, empty}
+use Rattle.store.specs.LookValues.{LookRefusalValues}
 use Rattle.store.specs.Looks.{fit, plan_of, ReadsHeader, met}
 use Rattle.store.proofs.Looking.{plan_fit, when_holds}
-use Rattle.transactions.specs.StoreAnswers.{StoreAnswer, StoreRefusalValues, Disk, UnfitSize, from_look}
+use Rattle.transactions.specs.StoreAnswers.{StoreAnswer, StoreRefusalValues, Disk, from_look}
 use Rattle.transactions.specs.DiskWork.{settling, RecoversAt, Recovers}
 
 module _ {D : Type 0} (R : Reader.Ghosts D) (W : Disk.Ghosts D) (s m l t : D) (n : ℕ) (planned : plan_of (R.view s).size ≡ Some n) (begun : W.restarts s (Ok tt) m) where

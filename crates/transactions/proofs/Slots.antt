@@ -1,12 +1,12 @@
 -- Where a write goes, by the table of the code.
-use Rattle.std.proofs.Common.{◌≡◌, ℕ, suc, ◌+◌, ◌<◌, ◌≤◌, Bool, true, false, cond, not, ◌&&◌, ◌||◌, eqb, ltb, leb, ◌⊎◌, List, [], ◌∷◌, ◌++◌, length, take, drop, is_some, Some, None, Option, unwrap_or, sym, refl, ap, ◌∙◌, subst, inl, inr, arith, length-append}
-use Rattle.std.proofs.lemmas.List.{length-take-le, length-drop, take-append-drop, append_assoc, take_at, drop_at}
-use Rattle.std.proofs.lemmas.Bool.{cases_Bool, cases_lt, cond-true, cond-false, both_ways, and_from, and_left, and_right, and_cases, not_from_true, not_from_false, le-leb, lt-leb, lt-ltb, ltb-false, leb-true, true≢false}
+use Rattle.std.proofs.Common.{◌≡◌, ℕ, suc, ◌+◌, ◌<◌, ◌≤◌, Bool, true, false, cond, not, ◌||◌, eqb, leb, ◌⊎◌, List, [], ◌∷◌, ◌++◌, length, take, drop, is_some, Some, None, Option, unwrap_or, sym, refl, ap, ◌∙◌, inl, inr, arith}
+use Rattle.std.proofs.lemmas.List.{length-take-le, take-append-drop, append_assoc, take_at, drop_at}
+use Rattle.std.proofs.lemmas.Bool.{cases_Bool, cond-true, cond-false, both_ways, and_from, and_left, and_right, not_from_true, not_from_false, le-leb, lt-leb, true≢false}
 use Rattle.std.proofs.lemmas.Bool.Decides.{nat_tests}
 use Rattle.store.specs.Layout.{HeaderValues, has_room, with_address}
 use Rattle.store.specs.Log.{newest}
 use Rattle.store.proofs.Looking.{newest_within}
-use Rattle.transactions.specs.Stores.{StoreValues, at, member, noted, full, write_block, noting}
+use Rattle.transactions.specs.Stores.{StoreValues, at, member, full, write_block, noting}
 use Rattle.transactions.specs.Slots.{open_slot, Notes}
 
 newest_append : (k : ℕ) (xs ys : List ℕ) (a d : ℕ) → newest k (xs ++ ys) a d ≡ newest (k + length xs) ys a (newest k xs a d)

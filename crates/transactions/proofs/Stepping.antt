@@ -1,14 +1,14 @@
 -- From the branches of the code to the steps of the calls.
-use Rattle.std.proofs.Common.{◌≡◌, ℕ, ◌+◌, ◌-◌, ◌<◌, ◌≤◌, Bool, true, false, cond, not, ◌&&◌, leb, List, [], ◌∷◌, ◌++◌, length, Some, None, Ok, Err, Option, Result, sym, refl, ap, ◌∙◌, subst, arith}
+use Rattle.std.proofs.Common.{◌≡◌, ℕ, ◌<◌, Bool, true, false, not, ◌&&◌, leb, List, [], ◌∷◌, ◌++◌, length, Some, None, Ok, Err, Option, Result, sym, refl, ap, ◌∙◌, subst, arith}
 use Rattle.std.proofs.lemmas.Bool.{cond-true, cond-false, lt-leb, true≢false}
-use Rattle.disks.specs.Values.{RefusalValues, Answer, answer_values}
+use Rattle.disks.specs.Values.{Answer, answer_values}
 use Rattle.disks.specs.Meaning.{Content, Shown, shown, Untouched}
 use Rattle.disks.specs.declared.reader.Reader
 use Rattle.disks.specs.declared.disk.Disk
 use Rattle.disks.specs.declared.refusal.Refusal.{Refusal}
 use Rattle.store.specs.Log.{block_for}
 use Rattle.transactions.specs.StoreAnswers.{StoreRefusalValues, StoreDown, TransactionOpen, PastPlan, StoreAnswer, store_answer, store_shown, by_disk}
-use Rattle.transactions.specs.Stores.{StoreValues, at, on, down, is_down, is_open, first, Check, Passes, begin_checks, read_checks, ticket_checks}
+use Rattle.transactions.specs.Stores.{StoreValues, at, on, is_down, is_open, first, Check, Passes, begin_checks, read_checks, ticket_checks}
 use Rattle.transactions.specs.DiskWork.{heading, settling}
 use Rattle.transactions.specs.Calls.{after, closed, committed, settled, Logs, CommitsIn, Commits, Reads, Settles}
 use Rattle.transactions.specs.declared.store_refusal.StoreRefusal.{StoreRefusal}

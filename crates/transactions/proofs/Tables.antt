@@ -1,10 +1,10 @@
 -- The address table of a store: its logged part, its open part, and its header.
-use Rattle.std.proofs.Common.{◌≡◌, ℕ, ◌+◌, ◌<◌, ◌≤◌, Bool, true, false, List, [], ◌∷◌, ◌++◌, length, get_or, take, drop, sym, refl, ap, ◌∙◌, subst, arith, length-append, length-drop, length-take}
+use Rattle.std.proofs.Common.{◌≡◌, ℕ, ◌<◌, ◌≤◌, Bool, false, List, [], length, get_or, take, drop, sym, refl, ap, ◌∙◌, subst, arith, length-take}
 use Rattle.std.proofs.lemmas.List.{get_or-take, take-take, take_all, drop_all, length-take-le, take-append-drop}
 use Rattle.store.specs.Layout.{HeaderValues, InRange, cut_to}
 use Rattle.store.specs.Headers.{header_values}
 use Rattle.store.specs.declared.header.Header.{Header}
-use Rattle.transactions.specs.Stores.{StoreValues, at, is_down, is_open}
+use Rattle.transactions.specs.Stores.{at, is_open}
 use Rattle.transactions.specs.Calls.{closed}
 use Rattle.transactions.specs.Holding.{store_values, Ordered}
 use Rattle.transactions.specs.declared.store.Store.{Store}

@@ -1,23 +1,22 @@
 -- Every call keeps what ties a store to its disk, and answers no block past the end.
-use Rattle.std.proofs.Common.{◌≡◌, ℕ, ◌+◌, ◌-◌, ◌<◌, ◌≤◌, Bool, true, false, cond, not, ◌&&◌, leb, List, [], ◌∷◌, ◌++◌, length, Some, None, Ok, Err, Option, Result, sym, refl, ap, ◌∙◌, subst, inl, inr, arith, length-append}
+use Rattle.std.proofs.Common.{◌≡◌, ℕ, ◌+◌, ◌-◌, ◌<◌, ◌≤◌, Bool, true, false, cond, not, leb, List, [], ◌∷◌, ◌++◌, length, Some, None, Ok, Err, Option, sym, refl, ap, ◌∙◌, subst, inl, inr, arith, length-append}
 use Rattle.std.proofs.lemmas.List.{append-nil}
-use Rattle.std.proofs.lemmas.Bool.{cases_Bool, cond-true, cond-false, true≢false, not-false, leb-false, leb-true, and_parts}
-use Rattle.disks.specs.Values.{StateValues, On, RefusalValues, PastEnd, Answer, answer_by}
+use Rattle.std.proofs.lemmas.Bool.{true≢false, not-false, leb-false, leb-true, and_parts}
+use Rattle.disks.specs.Values.{RefusalValues, PastEnd, Answer, answer_by}
 use Rattle.disks.specs.Meaning.{Content, Whole, Shown}
 use Rattle.disks.specs.declared.reader.Reader
 use Rattle.disks.specs.declared.disk.Disk
-use Rattle.store.specs.Layout.{HeaderValues, InRange, empty}
-use Rattle.store.specs.Log.{newest, block_for}
+use Rattle.store.specs.Layout.{HeaderValues, InRange}
 use Rattle.store.specs.Looks.{fit}
 use Rattle.store.proofs.Looking.{newest_within, block_within}
 use Rattle.transactions.specs.StoreAnswers.{StoreRefusalValues, Disk, UnfitSize, NoHeader, StoreDown, TransactionOpen, NoTicket, TicketOut, PastPlan, LogFull, StoreAnswer, by_disk}
-use Rattle.transactions.specs.Stores.{StoreValues, at, on, is_down, is_open, first, Check, Passes, start_checks, begin_checks, write_checks, read_checks, ticket_checks, write_block, noting}
-use Rattle.transactions.specs.DiskWork.{IfDone, heading, settling, formatting, RecoversAt}
+use Rattle.transactions.specs.Stores.{StoreValues, on, is_down, is_open, first, Check, Passes, start_checks, begin_checks, write_checks, read_checks, ticket_checks, write_block, noting}
+use Rattle.transactions.specs.DiskWork.{IfDone}
 use Rattle.transactions.specs.Calls.{after, bare, closed, committed, settled, renewed, formatted, Begins, Abandons, Logs, CommitsIn, Commits, Writes, Reads, Settles, Restarts, Formats}
 use Rattle.transactions.specs.Holding.{Ordered, Tied}
 use Rattle.transactions.specs.declared.phase.Phase.{Phase}
 use Rattle.transactions.specs.declared.phase.Phase.TheVariants.{Idle, Open, Down}
-use Rattle.transactions.proofs.Fair.{Lawful, Fair, IsOn, Any, done_on, never_past, fair_putting, fair_reading, fair_heading, fair_settling, fair_formatting}
+use Rattle.transactions.proofs.Fair.{Lawful, Fair, done_on, never_past, fair_putting, fair_reading, fair_heading, fair_settling, fair_formatting}
 use Rattle.transactions.proofs.Recovered.{Recovered, recovers_fairly}
 use Rattle.transactions.proofs.Stepping.{shut_idle}
 

@@ -1,9 +1,8 @@
 -- The last slot of the log, by the definitions of where a write goes.
-use Rattle.std.proofs.Common.{◌≡◌, ℕ, ◌+◌, ◌<◌, ◌≤◌, Bool, true, false, cond, not, ◌&&◌, ◌||◌, eqb, leb, List, [], ◌∷◌, ◌++◌, length, Some, None, Option, sym, refl, ap, ◌∙◌, subst, arith, length-append}
-use Rattle.std.proofs.lemmas.Bool.{lt-leb, le-leb, eq-eqb, ne_eqb, and_left, and_right, and_from, cond-true}
-use Rattle.store.specs.Log.{newest}
-use Rattle.transactions.specs.StoreAnswers.{StoreRefusalValues, NoTicket, StoreDown, PastPlan, LogFull}
-use Rattle.transactions.specs.Stores.{StoreValues, at, is_down, Check, member, full, first, write_checks, write_block, noting}
+use Rattle.std.proofs.Common.{◌≡◌, ℕ, ◌+◌, ◌<◌, Bool, true, false, cond, not, ◌||◌, leb, List, [], ◌∷◌, ◌++◌, length, Some, None, sym, refl, ap, ◌∙◌, subst, arith, length-append}
+use Rattle.std.proofs.lemmas.Bool.{lt-leb, le-leb, eq-eqb, ne_eqb, and_left, and_right, and_from}
+use Rattle.transactions.specs.StoreAnswers.{NoTicket, StoreDown, PastPlan, LogFull}
+use Rattle.transactions.specs.Stores.{StoreValues, at, is_down, Check, member, full, first, write_checks}
 use Rattle.transactions.specs.Examples.{LastSlot, WriteExamples}
 use Rattle.transactions.proofs.Stepping.{pass}
 

@@ -1,14 +1,14 @@
 -- What each call of a store does: its answer, and the store after it.
-use Rattle.std.specs.Prelude.{◌≡◌, ℕ, ◌-◌, Bool, true, false, List, [], ◌∷◌, ◌++◌, Ok, Err, Result}
+use Rattle.std.specs.Prelude.{◌≡◌, ℕ, ◌-◌, true, false, List, [], ◌∷◌, ◌++◌, Ok, Err, Result}
 use Rattle.disks.specs.Values.{Answer}
 use Rattle.disks.specs.Meaning.{Content, Shown}
 use Rattle.disks.specs.declared.reader.Reader
 use Rattle.disks.specs.declared.disk.Disk
 use Rattle.store.specs.Layout.{HeaderValues}
 use Rattle.store.specs.Log.{block_for}
-use Rattle.transactions.specs.StoreAnswers.{StoreRefusalValues, StoreDown, StoreAnswer, by_disk}
+use Rattle.transactions.specs.StoreAnswers.{StoreDown, StoreAnswer, by_disk}
 use Rattle.transactions.specs.Stores.{StoreValues, at, on, down, first, Passes, start_checks, begin_checks, write_checks, read_checks, ticket_checks, write_block, noting}
-use Rattle.transactions.specs.DiskWork.{IfDone, heading, settling, formatting, RecoversAt}
+use Rattle.transactions.specs.DiskWork.{heading, settling, formatting, RecoversAt}
 use Rattle.transactions.specs.declared.phase.Phase.{Phase}
 use Rattle.transactions.specs.declared.phase.Phase.TheVariants.{Idle, Open, Down}
 

@@ -1,5 +1,5 @@
 -- The store of the code by its values, and what ties it to its disk.
-use Rattle.std.specs.Prelude.{◌≡◌, ℕ, ◌+◌, Bool, false, not, ◌&&◌, List, [], ◌++◌, take, drop}
+use Rattle.std.specs.Prelude.{◌≡◌, ◌+◌, false, not, ◌&&◌, [], ◌++◌, take, drop}
 use Rattle.disks.specs.Values.{On}
 use Rattle.disks.specs.declared.reader.Reader
 use Rattle.store.specs.Layout.{InRange}

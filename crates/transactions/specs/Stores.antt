@@ -1,6 +1,5 @@
 -- A store as its calls see it, and the checks that each call begins with.
-use Rattle.std.specs.Prelude.{◌≡◌, ℕ, ◌+◌, Bool, true, false, cond, not, ◌&&◌, ◌||◌, List, [], ◌∷◌, ◌++◌, length, Some, None, Ok, Err, Option, ◌==◌, nat_le}
-use Rattle.store.specs.Layout.{HeaderValues}
+use Rattle.std.specs.Prelude.{◌≡◌, ℕ, ◌+◌, Bool, true, false, cond, not, ◌&&◌, ◌||◌, List, [], ◌∷◌, ◌++◌, length, Some, None, Err, Option, ◌==◌, nat_le}
 use Rattle.store.specs.Log.{newest}
 use Rattle.store.specs.Looks.{fit}
 use Rattle.transactions.specs.StoreAnswers.{StoreRefusalValues, UnfitSize, StoreDown, TransactionOpen, NoTicket, TicketOut, PastPlan, LogFull, StoreAnswer}

@@ -1,4 +1,4 @@
-use Rattle.std.proofs.Common.{◌≡◌, ℕ, List, vec_items, ap, ◌∙◌}
+use Rattle.std.proofs.Common.{ℕ, List, vec_items, ap, ◌∙◌}
 use Rattle.bench_disks.specs.Calls.{new_bench}
 use Rattle.bench_disks.specs.Disks.{buffered_bench}
 use Rattle.bench_disks.specs.Waiting.{queue}

@@ -1,6 +1,5 @@
 use Rattle.std.proofs.Common.{◌≡◌, ℕ, List, vec_items, sym, ap, ◌∙◌}
 use Rattle.bench_disks.specs.Calls.{Bench, new_bench}
-use Rattle.bench_disks.specs.Disks.{plain_bench, buffered_bench}
 use Rattle.benchrun.proofs.OnPair.{never_unpaired}
 use Rattle.benchrun.proofs.input.run_on_pair.Goals as goal
 

@@ -1,6 +1,4 @@
-use Rattle.std.proofs.Common.{ℕ, ap, ◌∙◌}
 use Rattle.std.proofs.lemmas.Result.{err_from_is_err_and}
-use Rattle.compare.specs.Compares.{lone}
 use Rattle.compare.proofs.Comparing.{compares_meant}
 use Rattle.compare.proofs.Listing.{lists_exactly}
 use Rattle.compare.proofs.comparison.compare.Goals as goal

@@ -1,4 +1,4 @@
-use Rattle.std.proofs.Common.{◌≡◌, ℕ, List, [], drop, sym, refl, ap, ◌∙◌, arith, rules}
+use Rattle.std.proofs.Common.{ℕ, List, drop, sym, refl, ap, ◌∙◌, arith, rules}
 use Rattle.std.proofs.lemmas.List.{take_more_same, take_all, drop_all}
 use Rattle.compare.specs.Differences.{difference}
 use Rattle.compare.proofs.Blocks.{goes_on, stops}

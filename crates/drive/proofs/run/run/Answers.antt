@@ -1,4 +1,4 @@
-use Rattle.std.proofs.Common.{◌≡◌, ℕ, List, ◌++◌, string_bytes, sym, ap, ◌∙◌, subst}
+use Rattle.std.proofs.Common.{ℕ, List, ◌++◌, string_bytes, sym, ap, ◌∙◌, subst}
 use Rattle.script.specs.Pieces.{lines}
 use Rattle.drive.proofs.Running.{Onward, onward_more, onward_ends}
 use Rattle.drive.proofs.run.run.Goals as goal

@@ -1,4 +1,4 @@
-use Rattle.std.proofs.Common.{◌≡◌, ℕ, min, List, ◌++◌, length, string_bytes, sym, ap, ◌∙◌, arith}
+use Rattle.std.proofs.Common.{◌≡◌, ℕ, min, List, ◌++◌, length, string_bytes, ap, ◌∙◌, arith}
 use Rattle.script.proofs.Trails.{no_sides, all_told, side_more}
 use Rattle.script.proofs.answer.tell_trail.Goals as goal
 

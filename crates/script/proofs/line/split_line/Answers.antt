@@ -1,4 +1,4 @@
-use Rattle.std.proofs.Common.{◌≡◌, length, sym, ◌∙◌, arith, true-eqb}
+use Rattle.std.proofs.Common.{length, sym, ◌∙◌, arith, true-eqb}
 use Rattle.std.proofs.lemmas.List.{take_rest, drop_all}
 use Rattle.script.proofs.Dividing.{no_lines, line_ended, line_unended}
 use Rattle.script.proofs.line.split_line.Goals as goal

@@ -1,4 +1,4 @@
-use Rattle.std.proofs.Common.{◌≡◌, ℕ, ◌<◌, List, [], ◌∷◌, length, None, sym, refl, ap, ◌∙◌, arith, true-eqb, false-eqb}
+use Rattle.std.proofs.Common.{◌≡◌, ℕ, List, [], ◌∷◌, length, None, refl, ◌∙◌, arith, true-eqb, false-eqb}
 use Rattle.script.specs.Numbers.{number_of, number_after}
 use Rattle.script.proofs.Reading.{reads_back}
 use Rattle.script.proofs.number.parse_number.Goals as goal

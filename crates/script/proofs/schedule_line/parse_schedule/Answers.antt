@@ -1,7 +1,6 @@
-use Rattle.std.proofs.Common.{◌≡◌, List, [], length, vec_items, sym, refl, ap, ◌∙◌, arith, true-eqb, false-eqb}
+use Rattle.std.proofs.Common.{vec_items, true-eqb}
 use Rattle.std.proofs.lemmas.List.{nil_from_length}
 use Rattle.std.proofs.lemmas.Result.{err_from_is_err_and}
-use Rattle.script.specs.Words.{schedule_text}
 use Rattle.script.proofs.Scheduling.{schedules_apart, no_words}
 use Rattle.script.proofs.schedule_line.parse_schedule.Goals as goal
 

@@ -1,7 +1,7 @@
-use Rattle.std.proofs.Common.{◌≡◌, ℕ, ◌+◌, ◌<◌, List, [], ◌∷◌, ◌++◌, length, get_or, drop, vec_items, sym, refl, ap, ◌∙◌, arith, true-eqb, false-eqb}
-use Rattle.std.proofs.lemmas.List.{nil_from_length, length_push, take_rest}
+use Rattle.std.proofs.Common.{ℕ, ◌<◌, List, ◌∷◌, ◌++◌, length, vec_items, sym, ap, ◌∙◌, arith, true-eqb, false-eqb}
+use Rattle.std.proofs.lemmas.List.{nil_from_length, take_rest}
 use Rattle.std.specs.List.{flat_map}
-use Rattle.script.specs.Words.{spaced, schedule_text}
+use Rattle.script.specs.Words.{spaced}
 use Rattle.script.proofs.Scheduling.{fits_more, no_more, no_space, word_more, space_more, all_words}
 use Rattle.script.proofs.schedule_line.read_words.Goals as goal
 

@@ -1,4 +1,4 @@
-use Rattle.std.proofs.Common.{◌≡◌, ◌<◌, sym, refl, ap, ◌∙◌, arith}
+use Rattle.std.proofs.Common.{◌<◌, sym, ap, ◌∙◌, arith}
 use Rattle.script.specs.Words.{hex_char}
 use Rattle.script.proofs.Spelling.{digit_fits, digit_below, digits_more, no_digit_no_word, whole_word}
 use Rattle.script.proofs.word.read_digits.Goals as goal

@@ -1,7 +1,7 @@
-use Rattle.std.proofs.Common.{◌≡◌, sym, refl, ap, ◌∙◌, arith}
+use Rattle.std.proofs.Common.{refl, ◌∙◌, arith}
 use Rattle.std.proofs.lemmas.Result.{err_from_is_err_and}
 use Rattle.store.specs.Headers.{header_values}
-use Rattle.store.specs.Looks.{met, plan_of}
+use Rattle.store.specs.Looks.{met}
 use Rattle.store.proofs.Looking.{looks_refused, looks_past, looks_read}
 use Rattle.store.proofs.look.look_up.Goals as goal
 

@@ -1,4 +1,4 @@
-use Rattle.std.proofs.Common.{◌≡◌, ℕ, ◌<◌, ◌≤◌, List, length, get_or, Ok, Err, sym, refl, ap, subst, arith}
+use Rattle.std.proofs.Common.{ℕ, ◌<◌, ◌≤◌, List, length, get_or, Ok, Err, sym, refl, ap, subst, arith}
 use Rattle.disks.specs.Values.{answer_values, refusal_values}
 use Rattle.store.specs.Headers.{header_values}
 use Rattle.std.proofs.lemmas.Result.{err_from_is_err_and}

@@ -1,8 +1,6 @@
-use Rattle.std.proofs.Common.{◌≡◌, Some, Err, sym, refl, ap, ◌∙◌, subst}
+use Rattle.std.proofs.Common.{◌≡◌, Some, Err, sym, ap, ◌∙◌, subst}
 use Rattle.std.proofs.lemmas.Result.{err_from_is_err_and}
-use Rattle.disks.specs.Values.{refusal_values}
 use Rattle.store.specs.Headers.{header_values}
-use Rattle.store.specs.LookValues.{look_refusal_values}
 use Rattle.store.specs.Looks.{plan_of}
 use Rattle.transactions.specs.DiskWork.{Recovers}
 use Rattle.transactions.specs.Recovery.{recovered}

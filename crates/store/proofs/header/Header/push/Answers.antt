@@ -1,6 +1,6 @@
-use Rattle.std.proofs.Common.{◌≡◌, ℕ, ◌+◌, ◌<◌, ◌&&◌, List, [], ◌∷◌, ◌++◌, length, take, sym, refl, ap, ◌∙◌, arith}
+use Rattle.std.proofs.Common.{ℕ, ◌<◌, List, length, sym, ap, ◌∙◌, arith}
 use Rattle.std.proofs.lemmas.Bool.{cond-true}
-use Rattle.store.specs.Layout.{HeaderValues, has_room}
+use Rattle.store.specs.Layout.{has_room}
 use Rattle.store.specs.Headers.{header_values}
 use Rattle.store.proofs.Making.{named_more, blank_more, log_more, roomy}
 use Rattle.store.proofs.header.Header.push.Goals as goal

@@ -1,4 +1,4 @@
-use Rattle.std.proofs.Common.{◌≡◌, sym, refl, ap, ◌∙◌, arith}
+use Rattle.std.proofs.Common.{sym, refl, ap, arith}
 use Rattle.store.specs.Headers.{header_values}
 use Rattle.transactions.specs.Calls.{closed}
 use Rattle.transactions.proofs.Tables.{not_open, cut_long, cut_values}

@@ -1,4 +1,4 @@
-use Rattle.std.proofs.Common.{◌≡◌, Bool, [], length, sym, refl, ap, ◌∙◌}
+use Rattle.std.proofs.Common.{Bool, [], length, ap, ◌∙◌}
 use Rattle.store.specs.Headers.{header_values}
 use Rattle.transactions.specs.Stores.{at}
 use Rattle.transactions.specs.declared.phase.Phase.TheVariants.{Idle}

@@ -5,7 +5,6 @@ use Rattle.store.specs.Headers.{header_values}
 use Rattle.transactions.specs.StoreAnswers.{Disk}
 use Rattle.transactions.specs.DiskWork.{heading}
 use Rattle.transactions.specs.Stores.{at, is_down}
-use Rattle.transactions.specs.Calls.{closed}
 use Rattle.transactions.specs.Holding.{store_values}
 use Rattle.transactions.specs.declared.phase.Phase.{Phase}
 use Rattle.transactions.specs.declared.phase.Phase.TheVariants.{Idle}

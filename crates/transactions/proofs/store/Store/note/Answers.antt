@@ -1,10 +1,9 @@
-use Rattle.std.proofs.Common.{◌≡◌, ℕ, ◌+◌, ◌<◌, ◌≤◌, true, false, List, [], ◌∷◌, ◌++◌, length, take, drop, is_some, Some, None, sym, refl, ap, ◌∙◌, subst, arith, length-append}
+use Rattle.std.proofs.Common.{◌≡◌, ℕ, ◌≤◌, [], ◌∷◌, ◌++◌, length, take, drop, is_some, sym, refl, ap, ◌∙◌, subst, arith, length-append}
 use Rattle.std.proofs.lemmas.List.{take-append-drop}
 use Rattle.std.proofs.lemmas.Bool.{true≢false, cond_both}
 use Rattle.store.specs.Layout.{HeaderValues, has_room, with_address}
 use Rattle.store.specs.Headers.{header_values}
-use Rattle.transactions.specs.Stores.{StoreValues, at}
-use Rattle.transactions.specs.Slots.{open_slot, Notes}
+use Rattle.transactions.specs.Stores.{at}
 use Rattle.transactions.specs.Holding.{store_values}
 use Rattle.transactions.specs.declared.store.Store.{Store}
 use Rattle.transactions.proofs.Slots.{notes_again, notes_full, notes_new, pushed_values, has_room_true, has_room_false}
