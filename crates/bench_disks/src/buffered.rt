@@ -5,7 +5,7 @@ ghost use Rattle.disks.specs.Meaning.{shown, Untouched};
 ghost use Rattle.disks.specs.Piles.{bottom};
 ghost use Rattle.bench.specs.Schedules.{words_left};
 ghost use Rattle.bench_disks.specs.Waiting.{queue as queued};
-ghost use Rattle.bench_disks.specs.Calls.{new_bench, reads as reads_of, writes as writes_of, barriers as barriersOf, restarts as restartsOf, cut_if};
+ghost use Rattle.bench_disks.specs.Calls.{new_bench, reads as reads_of, writes as writes_of, barriers as barriers_of, restarts as restarts_of, cut_if};
 ghost use Rattle.bench_disks.specs.Views.{view_of, Sound};
 ghost use Rattle.bench_disks.specs.Laws.{BenchLaws, CutLaws};
 ghost use Rattle.bench_disks.specs.Caches.{held};
@@ -103,7 +103,7 @@ impl Buffered {
     }
 
     fn barrier_steps(&mut self) -> Result<(), Refusal>
-        ensures { (answer_values result, buffered_bench self.new) ≡ barriersOf (buffered_bench self.old) }
+        ensures { (answer_values result, buffered_bench self.new) ≡ barriers_of (buffered_bench self.old) }
     {
         let outcome = self.faults.meet(Cause::at(BARRIER, 0));
         if outcome.acts {
@@ -114,7 +114,7 @@ impl Buffered {
     }
 
     fn restart_steps(&mut self) -> Result<(), Refusal>
-        ensures { (answer_values result, buffered_bench self.new) ≡ restartsOf (buffered_bench self.old) }
+        ensures { (answer_values result, buffered_bench self.new) ≡ restarts_of (buffered_bench self.old) }
     {
         let cut = self.faults.restart();
         self.cut_if(cut);
@@ -149,9 +149,9 @@ impl Reader for Buffered {
 impl Disk for Buffered {
     ghost writes = { λ s k b r t. (r, buffered_bench t) ≡ writes_of queued k b (buffered_bench s) };
 
-    ghost barriers = { λ s r t. (r, buffered_bench t) ≡ barriersOf (buffered_bench s) };
+    ghost barriers = { λ s r t. (r, buffered_bench t) ≡ barriers_of (buffered_bench s) };
 
-    ghost restarts = { λ s r t. (r, buffered_bench t) ≡ restartsOf (buffered_bench s) };
+    ghost restarts = { λ s r t. (r, buffered_bench t) ≡ restarts_of (buffered_bench s) };
 
     ghost bottoms = { λ d. bottom (buffered_bench d).state };
 

@@ -5,7 +5,7 @@ ghost use Rattle.disks.specs.Meaning.{shown, Untouched};
 ghost use Rattle.disks.specs.Piles.{bottom};
 ghost use Rattle.bench.specs.Schedules.{words_left};
 ghost use Rattle.bench_disks.specs.Waiting.{put};
-ghost use Rattle.bench_disks.specs.Calls.{new_bench, reads as reads_of, writes as writes_of, barriers as barriersOf, restarts as restartsOf};
+ghost use Rattle.bench_disks.specs.Calls.{new_bench, reads as reads_of, writes as writes_of, barriers as barriers_of, restarts as restarts_of};
 ghost use Rattle.bench_disks.specs.Views.{view_of, Sound};
 ghost use Rattle.bench_disks.specs.Laws.{BenchLaws};
 ghost use Rattle.bench_disks.specs.Disks.{plain_bench};
@@ -76,14 +76,14 @@ impl Plain {
     }
 
     fn barrier_steps(&mut self) -> Result<(), Refusal>
-        ensures { (answer_values result, plain_bench self.new) ≡ barriersOf (plain_bench self.old) }
+        ensures { (answer_values result, plain_bench self.new) ≡ barriers_of (plain_bench self.old) }
     {
         self.faults.meet(Cause::at(BARRIER, 0));
         self.faults.state().answer()
     }
 
     fn restart_steps(&mut self) -> Result<(), Refusal>
-        ensures { (answer_values result, plain_bench self.new) ≡ restartsOf (plain_bench self.old) }
+        ensures { (answer_values result, plain_bench self.new) ≡ restarts_of (plain_bench self.old) }
     {
         self.faults.restart();
         self.faults.state().answer()
@@ -117,9 +117,9 @@ impl Reader for Plain {
 impl Disk for Plain {
     ghost writes = { λ s k b r t. (r, plain_bench t) ≡ writes_of put k b (plain_bench s) };
 
-    ghost barriers = { λ s r t. (r, plain_bench t) ≡ barriersOf (plain_bench s) };
+    ghost barriers = { λ s r t. (r, plain_bench t) ≡ barriers_of (plain_bench s) };
 
-    ghost restarts = { λ s r t. (r, plain_bench t) ≡ restartsOf (plain_bench s) };
+    ghost restarts = { λ s r t. (r, plain_bench t) ≡ restarts_of (plain_bench s) };
 
     ghost bottoms = { λ d. bottom (plain_bench d).state };
 

@@ -2,7 +2,7 @@
 ghost use Rattle.std.specs.Prelude.{◌≡◌, true, if◌then◌else◌};
 ghost use Rattle.disks.specs.Meaning.{Content};
 ghost use Rattle.disks.specs.Blocks.{whole_blocks};
-ghost use Rattle.bench_disks.specs.Waiting.{inside, stand as standAll, chosen, newest};
+ghost use Rattle.bench_disks.specs.Waiting.{inside, stand as stand_all, chosen, newest};
 
 use crate::memory::Memory;
 use disks::block::Block;
@@ -16,7 +16,7 @@ pub struct WaitingWrite {
 // Lets all of them stand, oldest first.
 pub(crate) fn stand(memory: &mut Memory, waiting: &[WaitingWrite])
     requires { inside (whole_blocks memory.old.bytes.items) waiting.now ≡ true }
-    ensures { memory.new.bytes.items ≡ standAll waiting.now memory.old.bytes.items }
+    ensures { memory.new.bytes.items ≡ stand_all waiting.now memory.old.bytes.items }
 {
     for write in waiting {
         memory.put(write.block, &write.content);
@@ -26,7 +26,7 @@ pub(crate) fn stand(memory: &mut Memory, waiting: &[WaitingWrite])
 // Lets those stand, oldest first, whose bit of the pick is one: the bit worth 1 is that of the oldest.
 pub(crate) fn stand_chosen(memory: &mut Memory, waiting: &[WaitingWrite], pick: u16)
     requires { inside (whole_blocks memory.old.bytes.items) waiting.now ≡ true }
-    ensures { memory.new.bytes.items ≡ standAll (chosen pick 0 waiting.now) memory.old.bytes.items }
+    ensures { memory.new.bytes.items ≡ stand_all (chosen pick 0 waiting.now) memory.old.bytes.items }
 {
     let mut bits = pick;
     for write in waiting {

@@ -2,7 +2,7 @@
 ghost use Rattle.std.specs.Prelude.{◌≡◌, IfOk, string_bytes};
 ghost use Rattle.bench_disks.specs.Waiting.{put, queue};
 ghost use Rattle.script.specs.Pieces.{lines};
-ghost use Rattle.benchrun.specs.Output.{unknown as unknownText, zeros as allZeros, first_line, other_lines, RunsNew, RunsNewPair, Scheduled, ScheduledPair, Named, Prints};
+ghost use Rattle.benchrun.specs.Output.{unknown as unknown_text, zeros as all_zeros, first_line, other_lines, RunsNew, RunsNewPair, Scheduled, ScheduledPair, Named, Prints};
 
 use crate::stands::{BLOCKS, finish};
 use bench::schedule::Schedule;
@@ -30,7 +30,7 @@ pub fn run_input(heap: Global, input: &[u8]) -> Result<String, AllocError>
 }
 
 fn unknown(heap: Global) -> Result<String, AllocError>
-    ensures { IfOk result (λ s. string_bytes s ≡ unknownText) }
+    ensures { IfOk result (λ s. string_bytes s ≡ unknown_text) }
 {
     String::from_str(heap, "?\n")
 }
@@ -137,7 +137,7 @@ fn run_on_pair(
 
 // The memory of a new disk.
 fn zeros(heap: Global) -> Result<Vec<u8>, AllocError>
-    ensures { IfOk result (λ v. v.items ≡ allZeros) }
+    ensures { IfOk result (λ v. v.items ≡ all_zeros) }
 {
     Vec::from_elem(heap, 0u8, BLOCKS * BLOCK_BYTES)
 }

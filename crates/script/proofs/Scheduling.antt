@@ -2,7 +2,7 @@
 use Rattle.std.proofs.Common.{◌≡◌, ℕ, suc, ◌+◌, ◌^◌, ◌<◌, ◌≤◌, List, [], ◌∷◌, ◌++◌, length, get_or, take, drop, Some, None, sym, refl, ap, ◌∙◌, subst, append_assoc, append-nil, arith, length-append}
 use Rattle.std.proofs.ByRecursion.{All-push}
 use Rattle.std.proofs.lemmas.List.{take_at, drop_at, flat_map_more}
-use Rattle.std.specs.List.{flat_map, AllByRecursion as All}
+use Rattle.std.specs.List.{flat_map, AllByRecursion}
 use Rattle.script.specs.Words.{word_text, spaced, schedule_text, LineSays, StartsNoWord, NoWord, SchedulesApart}
 use Rattle.script.proofs.Spelling.{length_word, words_apart}
 
@@ -62,7 +62,7 @@ space_more (b ∷ bs) some e = ap (λ x. x ∷ bs) e
 pub all_words : (line ws after : List ℕ) → 32 ∷ line ≡ flat_map spaced ws ++ after → after ≡ [] → line ≡ schedule_text ws
 all_words line ws after e end = ap (drop 1) (e ∙ ap (λ (t : List ℕ). flat_map spaced ws ++ t) end ∙ append-nil (flat_map spaced ws))
 
-spaced_apart : (vs ws : List ℕ) → All (λ w. w < 2 ^ 32) vs → All (λ w. w < 2 ^ 32) ws → flat_map spaced vs ≡ flat_map spaced ws → vs ≡ ws
+spaced_apart : (vs ws : List ℕ) → AllByRecursion (λ w. w < 2 ^ 32) vs → AllByRecursion (λ w. w < 2 ^ 32) ws → flat_map spaced vs ≡ flat_map spaced ws → vs ≡ ws
 spaced_apart [] [] f g e = refl
 spaced_apart [] (w ∷ ws) f g e = let z : ◌≡◌ {A = ℕ} 0 1 = cc in absurd (omega arith)
 spaced_apart (v ∷ vs) [] f g e = let z : ◌≡◌ {A = ℕ} 0 1 = cc in absurd (omega arith)
@@ -91,8 +91,8 @@ pub starts_with_no_word : (text : List ℕ) → NoWord (take 8 text) → StartsN
 starts_with_no_word text none w after e = none w (ap (take 8) e ∙ take_at (word_text w) after 8 (length_word w))
 
 -- one word more that fits
-pub fits_more : (vs ws : List ℕ) (w : ℕ) → All (λ w. w < 2 ^ 32) vs → w < 2 ^ 32 → ws ≡ vs ++ (w ∷ []) → All (λ w. w < 2 ^ 32) ws
-fits_more vs ws w all small e = subst (λ (us : List ℕ). All (λ w. w < 2 ^ 32) us) (sym e) (All-push (λ w. w < 2 ^ 32) vs w all small)
+pub fits_more : (vs ws : List ℕ) (w : ℕ) → AllByRecursion (λ w. w < 2 ^ 32) vs → w < 2 ^ 32 → ws ≡ vs ++ (w ∷ []) → AllByRecursion (λ w. w < 2 ^ 32) ws
+fits_more vs ws w all small e = subst (λ (us : List ℕ). AllByRecursion (λ w. w < 2 ^ 32) us) (sym e) (All-push (λ w. w < 2 ^ 32) vs w all small)
 
 -- an empty line is no words
 pub no_words : (line ws : List ℕ) → line ≡ [] → ws ≡ [] → LineSays line (Some ws)

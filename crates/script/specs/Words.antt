@@ -1,6 +1,6 @@
 -- The text of a schedule: words of 8 hexadecimal digits.
 use Rattle.std.specs.Prelude.{◌≡◌, ℕ, zero, suc, ◌+◌, ◌/◌, ◌%◌, ◌^◌, ◌<◌, ◌≤◌, cond, List, [], ◌∷◌, ◌++◌, length, drop, Some, None, Option, ◌≢◌, nat_lt}
-use Rattle.std.specs.List.{flat_map, AllByRecursion as All}
+use Rattle.std.specs.List.{flat_map, AllByRecursion}
 
 -- a digit as 0 to 9, A to F
 abbrev pub hex_char : ℕ → ℕ
@@ -43,8 +43,8 @@ schedule_text ws = drop 1 (flat_map spaced ws)
 -- the words of 32 bits, at most 64, that the line is the text of; none if it is the text of no 64 words or fewer
 abbrev pub LineSays : List ℕ → Option (List ℕ) → Type 0
 LineSays line None = (ws : List ℕ) → length ws ≤ 64 → line ≢ schedule_text ws
-LineSays line (Some ws) = (length ws ≤ 64) × All (λ w. w < 2 ^ 32) ws × (line ≡ schedule_text ws)
+LineSays line (Some ws) = (length ws ≤ 64) × AllByRecursion (λ w. w < 2 ^ 32) ws × (line ≡ schedule_text ws)
 
 -- schedules of words of 32 bits that differ are written differently
 abbrev pub SchedulesApart : Type 0
-SchedulesApart = (vs ws : List ℕ) → All (λ w. w < 2 ^ 32) vs → All (λ w. w < 2 ^ 32) ws → schedule_text vs ≡ schedule_text ws → vs ≡ ws
+SchedulesApart = (vs ws : List ℕ) → AllByRecursion (λ w. w < 2 ^ 32) vs → AllByRecursion (λ w. w < 2 ^ 32) ws → schedule_text vs ≡ schedule_text ws → vs ≡ ws

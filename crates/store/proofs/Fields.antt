@@ -1,6 +1,6 @@
 -- Fields of 12 bits in bytes, there and back, and a log filled up to 32 of them.
 use Rattle.std.proofs.Common.{◌≡◌, ℕ, ◌+◌, ◌-◌, ◌*◌, ◌/◌, ◌%◌, ◌<◌, ◌≤◌, List, [], ◌∷◌, length, get_or, take, drop, replicate, sym, refl, ◌∙◌, arith}
-use Rattle.std.specs.List.{AllByRecursion as All}
+use Rattle.std.specs.List.{AllByRecursion}
 use Rattle.std.proofs.lemmas.List.{ext_get_or, length-replicate, length-take-le, length-drop, get_or-replicate, get_or-take, get_or-drop, take-append-drop}
 use Rattle.store.specs.Layout.{InRange, filled, pairs, fields}
 
@@ -17,7 +17,7 @@ length_fields m (x ∷ []) e = omega arith
 length_fields m (x ∷ y ∷ []) e = omega arith
 length_fields m (x ∷ y ∷ z ∷ ys) e = omega (arith, length_fields (m - 1) ys (omega arith))
 
-pub fields_pairs : (m : ℕ) (xs : List ℕ) → length xs ≡ 2 * m → All (λ x. x < 4096) xs → fields (pairs xs) ≡ xs
+pub fields_pairs : (m : ℕ) (xs : List ℕ) → length xs ≡ 2 * m → AllByRecursion (λ x. x < 4096) xs → fields (pairs xs) ≡ xs
 unfolding pairs fields
 fields_pairs m [] e h = refl
 fields_pairs m (a ∷ []) e h = absurd (omega arith)
@@ -26,7 +26,7 @@ fields_pairs m (a ∷ b ∷ xs) e h =
     let two : (a % 16 * 16 + b / 256) % 16 * 256 + b % 256 ≡ b = omega arith in
     cc (fields_pairs (m - 1) xs (omega arith) h.1.1)
 
-pub pairs_fields : (m : ℕ) (ys : List ℕ) → length ys ≡ 3 * m → All (λ y. y < 256) ys → pairs (fields ys) ≡ ys
+pub pairs_fields : (m : ℕ) (ys : List ℕ) → length ys ≡ 3 * m → AllByRecursion (λ y. y < 256) ys → pairs (fields ys) ≡ ys
 unfolding pairs fields
 pairs_fields m [] e h = refl
 pairs_fields m (x ∷ []) e h = absurd (omega arith)
@@ -37,7 +37,7 @@ pairs_fields m (x ∷ y ∷ z ∷ ys) e h =
     let three : (y % 16 * 256 + z) % 256 ≡ z = omega arith in
     cc (pairs_fields (m - 1) ys (omega arith) h.1.1.1)
 
-pub pairs_bytes : (xs : List ℕ) → All (λ x. x < 4096) xs → All (λ y. y < 256) (pairs xs)
+pub pairs_bytes : (xs : List ℕ) → AllByRecursion (λ x. x < 4096) xs → AllByRecursion (λ y. y < 256) (pairs xs)
 unfolding pairs
 pairs_bytes [] h = tt
 pairs_bytes (a ∷ []) h = tt

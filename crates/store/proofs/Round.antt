@@ -1,7 +1,7 @@
 -- A header packed and unpacked, there and back.
 use Rattle.std.proofs.Common.{◌≡◌, ℕ, ◌+◌, ◌-◌, ◌*◌, ◌/◌, ◌%◌, ◌<◌, length, get_or, take, drop, replicate, Some, sym, refl, ap, ◌∙◌, subst, inl, inr, arith}
 use Rattle.disks.specs.Meaning.{Content, Whole}
-use Rattle.std.specs.List.{AllByRecursion as All}
+use Rattle.std.specs.List.{AllByRecursion}
 use Rattle.std.proofs.ByRecursion.{All-get_or, All-from_get_or, All-append}
 use Rattle.std.proofs.lemmas.List.{places, length-append, length-replicate, length-take-le, length-drop, get_or-replicate, get_or-drop, get_or-take, get_or_past, take_at, drop_at, drop-drop, take-append-drop}
 use Rattle.std.proofs.lemmas.Bool.{cases_lt, cases_Bool}
@@ -28,13 +28,13 @@ module _ (h : HeaderValues) (k : InRange h) where
   right : (i : ℕ) → i < length (filled h.log) → Right h.n (length h.log) (filled h.log) i
   right i l = record { named = λ lt. grind (arith, places, k.below i); blank = λ le. grind (arith, places) }
 
-  small : All (λ x. x < 4096) (filled h.log)
+  small : AllByRecursion (λ x. x < 4096) (filled h.log)
   small = All-from_get_or _ _ 0 (λ i l. grind (arith, places, k.below i))
 
   long : length (pairs (filled h.log)) ≡ 48
   long = length_pairs 16 (filled h.log) length_filled
 
-  bytes : All (λ b. b < 256) (packed h)
+  bytes : AllByRecursion (λ b. b < 256) (packed h)
   unfolding packed
   bytes =
       let rest = All-from_get_or (λ b. b < 256) (replicate 459 0) 0 (λ i l. omega (arith, get_or-replicate {A = ℕ} 459 i 0 0 l)) in

@@ -1,3 +1,5 @@
+#![tactic(auto)]
+
 // Tables of cases for the layers below: each is run, besides what is proved of all cases.
 #[cfg(test)]
 mod benches;

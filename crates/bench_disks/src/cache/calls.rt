@@ -1,6 +1,6 @@
 // Reading, writing and cutting what a buffered disk holds.
 ghost use Rattle.std.specs.Prelude.{◌≡◌, ◌<◌, ◌≤◌, [], vec_len, vec_capacity};
-ghost use Rattle.bench_disks.specs.Waiting.{face_of, size_of, room, queue as queued, cut as cutBy, flush as flushed};
+ghost use Rattle.bench_disks.specs.Waiting.{face_of, size_of, room, queue as queued, cut as cut_by, flush as flushed};
 ghost use Rattle.bench_disks.specs.Caches.{held};
 
 use super::Cache;
@@ -74,7 +74,7 @@ impl Cache {
 
     // What waits stands by the pick, or vanishes.
     pub(crate) fn cut(&mut self, pick: u16)
-        ensures { held self.new ≡ cutBy pick (held self.old) }
+        ensures { held self.new ≡ cut_by pick (held self.old) }
     {
         stand_chosen(&mut self.memory, &self.waiting, pick);
         self.waiting.clear();

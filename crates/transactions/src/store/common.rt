@@ -3,8 +3,8 @@ ghost use Rattle.std.specs.Prelude.{◌≡◌, false, []};
 ghost use Rattle.disks.specs.Values.{answer_values};
 ghost use Rattle.transactions.specs.StoreAnswers.{store_answer, by_disk};
 ghost use Rattle.store.specs.Headers.{header_values};
-ghost use Rattle.transactions.specs.Stores.{at, is_down as downPhase, is_open as openPhase};
-ghost use Rattle.transactions.specs.Calls.{after as afterWork, closed as closedPhase};
+ghost use Rattle.transactions.specs.Stores.{at, is_down as down_phase, is_open as open_phase};
+ghost use Rattle.transactions.specs.Calls.{after as after_work, closed as closed_phase};
 ghost use Rattle.transactions.specs.declared.phase.Phase.TheVariants.{Idle as IsIdle};
 ghost use Rattle.transactions.specs.Holding.{store_values};
 
@@ -16,7 +16,7 @@ use store::header::Header;
 
 impl<D> Store<D> {
     pub(crate) fn is_down(&self) -> bool
-        ensures { result ≡ downPhase self.now.phase }
+        ensures { result ≡ down_phase self.now.phase }
     {
         match self.phase {
             Phase::Down => true,
@@ -25,7 +25,7 @@ impl<D> Store<D> {
     }
 
     pub(crate) fn is_open(&self) -> bool
-        ensures { result ≡ openPhase self.now.phase }
+        ensures { result ≡ open_phase self.now.phase }
     {
         match self.phase {
             Phase::Open => true,
@@ -36,7 +36,7 @@ impl<D> Store<D> {
     // A disk's refusal is the store's answer, and leaves the store down.
     pub(crate) fn answer(&mut self, work: Result<(), Refusal>) -> Result<(), StoreRefusal>
         ensures answer { store_answer result ≡ by_disk (answer_values work) }
-        ensures after { store_values self.new ≡ afterWork work (store_values self.old) }
+        ensures after { store_values self.new ≡ after_work work (store_values self.old) }
     {
         match work {
             Ok(()) => Ok(()),
@@ -49,7 +49,7 @@ impl<D> Store<D> {
 
     // Ends the transaction, if one is open: the open writes are forgotten.
     pub(crate) fn close(&mut self)
-        ensures { store_values self.new ≡ at self.old.disk (closedPhase self.old.phase) false (store_values self.old).n (store_values self.old).logged [] }
+        ensures { store_values self.new ≡ at self.old.disk (closed_phase self.old.phase) false (store_values self.old).n (store_values self.old).logged [] }
     {
         self.out = false;
         self.table.truncate(self.logged);
