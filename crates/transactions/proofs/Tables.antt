@@ -7,7 +7,7 @@ use Rattle.store.specs.declared.header.Header.{Header}
 use Rattle.transactions.specs.Stores.{at, is_open}
 use Rattle.transactions.specs.Calls.{closed}
 use Rattle.transactions.specs.Holding.{store_values, Ordered}
-use Rattle.transactions.specs.declared.store.Store.{Store}
+use Rattle.transactions.specs.declared.plan_store.Store.{Store}
 use Rattle.transactions.specs.declared.phase.Phase.{Phase}
 use Rattle.transactions.specs.declared.phase.Phase.TheVariants.{Idle, Open, Down}
 

@@ -5,7 +5,7 @@ use Rattle.disks.specs.declared.reader.Reader
 use Rattle.store.specs.Layout.{InRange}
 use Rattle.store.specs.Headers.{header_values}
 use Rattle.transactions.specs.Stores.{StoreValues, at, is_down, is_open}
-use Rattle.transactions.specs.declared.store.Store.{Store}
+use Rattle.transactions.specs.declared.plan_store.Store.{Store}
 
 abbrev pub store_values : {D : Type 0} → Store D → StoreValues D
 store_values s = at s.disk s.phase s.out s.table.n (take s.logged (header_values s.table).log) (drop s.logged (header_values s.table).log)

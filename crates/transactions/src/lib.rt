@@ -3,7 +3,7 @@
 
 mod disk_work;
 pub mod phase;
+pub mod plan_store;
 mod recovery;
-pub mod store;
 pub mod store_refusal;
 pub mod ticket;
