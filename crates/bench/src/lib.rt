@@ -1,4 +1,4 @@
-// Bench disks: disks in memory that fail by a schedule.
+// Schedules, by which bench disks fail.
 #![tactic(auto)]
 
 pub mod schedule;

@@ -1,4 +1,4 @@
--- Blocks of a memory, and writes that stand one after the other.
+-- Lemmas: blocks of a memory, and writes that stand one after the other.
 use Rattle.std.specs.Prelude.{◌≡◌, ℕ, ◌+◌, ◌-◌, ◌/◌, ◌%◌, ◌^◌, ◌<◌, ◌≤◌, true, cond, List, [], ◌∷◌, ◌++◌, length, get_or, take, drop, ◌==◌, ◌≢◌, nat_lt, slice_index_or, refl}
 use Rattle.std.proofs.Common.{sym, ap, ◌∙◌, pow-suc, add-one, arith}
 use Rattle.std.proofs.Math.Nat.{div-div-eq-div-mul}

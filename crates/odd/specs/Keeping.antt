@@ -1,4 +1,4 @@
--- A disk that is always dark keeps the meaning of a disk.
+-- Lemmas: a disk that is always dark keeps the meaning of a disk.
 use Rattle.std.specs.Prelude.{◌≡◌, ℕ, ◌<◌, Bool, true, false, cond, replicate, Err, nat_lt, slice_index, refl}
 use Rattle.std.proofs.Common.{sym, ap, subst, arith}
 use Rattle.std.proofs.Math.Decide.{dec_lt}

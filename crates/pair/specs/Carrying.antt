@@ -1,4 +1,4 @@
--- What a done call says of each side, carried over to the pair.
+-- Lemmas: what a done call says of each side, carried over to the pair.
 use Rattle.std.specs.Prelude.{◌≡◌, ℕ, ◌<◌, Bool}
 use Rattle.std.proofs.Common.{sym, subst, ◌∙◌, inl, inr, arith}
 use Rattle.std.proofs.Math.Decide.{ℕ_discrete}

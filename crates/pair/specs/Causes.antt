@@ -1,4 +1,4 @@
--- A pair is proper, its height, when it is dead, and where its faces are candidates.
+-- Lemmas: a pair is proper, its height, when it is dead, and where its faces are candidates.
 use Rattle.std.specs.Prelude.{◌≡◌, ℕ, zero, suc, ◌+◌, ◌≤◌, max, Bool, true, false, ◌&&◌, ◌⊎◌, List, ◌∷◌, length, take, slice_index, refl}
 use Rattle.std.proofs.Common.{sym, ap₂, subst, ◌∙◌, inl, inr, ⊎_elim, arith, take_all}
 use Rattle.disks.specs.Values.{CauseValues, StateValues, On, Dark, Dead}

@@ -1,4 +1,4 @@
--- What the copy of a restart and the barrier after it leave of two disks that were on.
+-- Lemmas: what the copy of a restart and the barrier after it leave of two disks that were on.
 use Rattle.std.proofs.Common.{◌≡◌, ℕ, zero, suc, ◌<◌, ◌≤◌, ◌⊎◌, Ok, Err, sym, refl, ap, ◌∙◌, subst, inl, inr, ⊎_elim, arith}
 use native.Mathlib.Decide.{ℕ_discrete, dec_lt}
 use Rattle.disks.specs.Values.{StateValues, On, Dark, Dead, Answer, answer_by}

@@ -1,4 +1,4 @@
--- What a call does to one disk, and one side's part in a call of its pair.
+-- Lemmas: what a call does to one disk, and one side's part in a call of its pair.
 use Rattle.std.specs.Prelude.{◌≡◌, ℕ, ◌<◌, Bool, true, false, ◌⊎◌, ◌≢◌, refl}
 use Rattle.std.proofs.Common.{sym, subst, ◌∙◌, inl, inr, ⊎_elim}
 use Rattle.disks.specs.Values.{StateValues, On, Dark, Dead, Answer, answer_by}

@@ -1,4 +1,4 @@
--- Read of a pair keeps the meaning of a reader, by the laws of its sides.
+-- Lemmas: read of a pair keeps the meaning of a reader, by the laws of its sides.
 use Rattle.std.specs.Prelude.{◌≡◌, ℕ, ◌<◌, Bool, true, Ok, refl}
 use Rattle.std.proofs.Common.{sym, ap, subst, ◌∙◌, arith}
 use Rattle.disks.specs.Values.{CauseValues, StateValues, On, Dark, Dead, answer_by}

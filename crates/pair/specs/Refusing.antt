@@ -1,4 +1,4 @@
--- The refusals of a pair's calls: past the size, and by the state that the pair had.
+-- Lemmas: the refusals of a pair's calls: past the size, and by the state that the pair had.
 use Rattle.std.specs.Prelude.{◌≡◌, ℕ, ◌<◌, Bool, true, false, Err, nat_lt, refl}
 use Rattle.std.proofs.Common.{sym, ap, subst, ◌∙◌, arith, ltb-true, ltb-false}
 use Rattle.disks.specs.Values.{StateValues, On, Dark, Dead, PastEnd, Answer, answer_by}

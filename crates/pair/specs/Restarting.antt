@@ -1,4 +1,4 @@
--- Restart of a pair keeps the meaning of a disk, by the laws of its sides.
+-- Lemmas: restart of a pair keeps the meaning of a disk, by the laws of its sides.
 use Rattle.std.proofs.Common.{◌≡◌, ℕ, ◌<◌, Bool, true, false, ◌&&◌, sym, refl, ap, ◌∙◌, subst, ap₂, inl, inr, ⊎_elim, arith}
 use borrow.Author.Tests.{clash}
 use Rattle.disks.specs.Values.{StateValues, On, Dark, Dead, Answer, answer_by}

@@ -1,4 +1,4 @@
--- The state of a pair by cases, and what it says of the sides.
+-- Lemmas: the state of a pair by cases, and what it says of the sides.
 use Rattle.std.specs.Prelude.{◌≡◌, ℕ, ◌<◌, Bool, true, false, ◌≢◌, refl}
 use Rattle.std.proofs.Common.{sym, ap, subst, ◌∙◌, inl, inr, arith}
 use Rattle.disks.specs.Values.{StateValues, On, Dark, Dead}

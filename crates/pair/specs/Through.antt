@@ -1,4 +1,4 @@
--- A call that goes through the sides of a pair that is on.
+-- Lemmas: a call that goes through the sides of a pair that is on.
 use Rattle.std.specs.Prelude.{◌≡◌, ℕ, ◌<◌, Bool, true, false, ◌⊎◌}
 use Rattle.std.proofs.Common.{sym, ap₂, subst, ◌∙◌, inl, inr, ⊎_elim, arith}
 use Rattle.disks.specs.Values.{On, Answer, answer_by}

@@ -1,4 +1,4 @@
--- Write and barrier of a pair keep the meaning of a disk, by the laws of its sides.
+-- Lemmas: write and barrier of a pair keep the meaning of a disk, by the laws of its sides.
 use Rattle.std.proofs.Common.{sym, subst, arith}
 use Rattle.disks.specs.Meaning.{Off, WriteLaw, BarrierLaw}
 use Rattle.disks.specs.declared.reader.Reader

@@ -1,6 +1,6 @@
+// Tables of cases for the layers below: each is run, besides what is proved of all cases.
 #![tactic(auto)]
 
-// Tables of cases for the layers below: each is run, besides what is proved of all cases.
 #[cfg(test)]
 mod benches;
 #[cfg(test)]

@@ -7,9 +7,6 @@ use Rattle.transactions.proofs.Copying.{settles}
 use Rattle.transactions.proofs.Tables.{log_low}
 use Rattle.transactions.proofs.disk_work.settle_log.Goals as goal
 
-pub copy_home-requires : goal.copy_home-requires
-copy_home-requires g c = subst (λ (xs : List ℕ). (length xs ≤ 32) × ((i : ℕ) → i < length xs → get_or xs i 0 < 4096)) (sym c.log-2.ensures) (log_low c.args.header.now)
-
 -- the slots of the header's log were copied, and the log is not empty
 pub returns : goal.returns
 returns g c =
@@ -17,6 +14,9 @@ returns g c =
     let some : 0 < length h.log = omega (arith, ap length c.log.ensures) in
     let home = subst (λ (xs : List ℕ). copying_home g.D.Reader g.D.Disk 1 xs c.args.disk.now (Ok tt) c.copy_home.new.disk) c.log-2.ensures c.in_ok-copy_home.ensures in
     settles g.D.Reader g.D.Disk h.n h.log c.args.disk.now (answer_values c.clear_log.result) c.clear_log.new.disk some (Ok tt, c.copy_home.new.disk, home, c.clear_log.ensures)
+
+pub copy_home-requires : goal.copy_home-requires
+copy_home-requires g c = subst (λ (xs : List ℕ). (length xs ≤ 32) × ((i : ℕ) → i < length xs → get_or xs i 0 < 4096)) (sym c.log-2.ensures) (log_low c.args.header.now)
 
 pub returns-in_err-copy_home : goal.returns-in_err-copy_home
 returns-in_err-copy_home g c =
