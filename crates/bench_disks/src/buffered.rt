@@ -19,7 +19,7 @@ use crate::faults::Faults;
 use crate::memory::Memory;
 use bench::schedule::Schedule;
 use disks::block::Block;
-use disks::cause::{BARRIER, Cause, READ, WRITE};
+use disks::cause::{Call, Cause};
 use disks::disk::Disk;
 use disks::reader::Reader;
 use disks::refusal::Refusal;
@@ -80,7 +80,7 @@ impl Buffered {
         if block >= self.cache.size() {
             return Err(Refusal::PastEnd);
         }
-        let outcome = self.faults.meet(Cause::at(READ, block));
+        let outcome = self.faults.meet(Cause::at(Call::Read(block)));
         self.cut_if(outcome.cut);
         if outcome.is_done() {
             self.cache.face(block, place);
@@ -94,7 +94,7 @@ impl Buffered {
         if block >= self.cache.size() {
             return Err(Refusal::PastEnd);
         }
-        let outcome = self.faults.meet(Cause::at(WRITE, block));
+        let outcome = self.faults.meet(Cause::at(Call::Write(block)));
         if outcome.acts {
             self.cache.queue(block, content);
         }
@@ -105,7 +105,7 @@ impl Buffered {
     fn barrier_steps(&mut self) -> Result<(), Refusal>
         ensures { (answer_values result, buffered_bench self.new) ≡ barriers_of (buffered_bench self.old) }
     {
-        let outcome = self.faults.meet(Cause::at(BARRIER, 0));
+        let outcome = self.faults.meet(Cause::at(Call::Barrier));
         if outcome.acts {
             self.cache.flush();
         }

@@ -5,7 +5,7 @@ ghost use Rattle.bench.specs.Schedules.{words_left};
 ghost use Rattle.bench_disks.specs.Faults.{state_by, is_done, step_for, meets, step_at_restart, restart_outcome};
 
 use bench::schedule::{Schedule, Step, Verb};
-use disks::cause::{Cause, RESTART};
+use disks::cause::{Call, Cause};
 use disks::state::State;
 
 #[derive(Drop)]
@@ -113,11 +113,11 @@ impl Faults {
         };
         match (self.state, step.verb) {
             (State::On, verb) => {
-                self.state = state_after(verb, Cause::at(RESTART, 0));
+                self.state = state_after(verb, Cause::at(Call::Restart));
                 Some(step.pick)
             }
             (State::Dark(_), verb) => {
-                self.state = state_after(verb, Cause::at(RESTART, 0));
+                self.state = state_after(verb, Cause::at(Call::Restart));
                 None
             }
             (State::Dead(_), _) => None,

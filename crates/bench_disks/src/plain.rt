@@ -16,7 +16,7 @@ use crate::faults::Faults;
 use crate::memory::Memory;
 use bench::schedule::Schedule;
 use disks::block::Block;
-use disks::cause::{BARRIER, Cause, READ, WRITE};
+use disks::cause::{Call, Cause};
 use disks::disk::Disk;
 use disks::reader::Reader;
 use disks::refusal::Refusal;
@@ -55,7 +55,7 @@ impl Plain {
         if block >= self.memory.size() {
             return Err(Refusal::PastEnd);
         }
-        let outcome = self.faults.meet(Cause::at(READ, block));
+        let outcome = self.faults.meet(Cause::at(Call::Read(block)));
         if outcome.is_done() {
             self.memory.get(block, place);
         }
@@ -68,7 +68,7 @@ impl Plain {
         if block >= self.memory.size() {
             return Err(Refusal::PastEnd);
         }
-        let outcome = self.faults.meet(Cause::at(WRITE, block));
+        let outcome = self.faults.meet(Cause::at(Call::Write(block)));
         if outcome.acts {
             self.memory.put(block, content);
         }
@@ -78,7 +78,7 @@ impl Plain {
     fn barrier_steps(&mut self) -> Result<(), Refusal>
         ensures { (answer_values result, plain_bench self.new) ≡ barriers_of (plain_bench self.old) }
     {
-        self.faults.meet(Cause::at(BARRIER, 0));
+        self.faults.meet(Cause::at(Call::Barrier));
         self.faults.state().answer()
     }
 

@@ -4,3 +4,4 @@ pub mod Blocks
 pub mod Images
 pub mod Piles
 pub mod Trails
+pub mod Text

@@ -1,5 +1,5 @@
 -- Causes and answers on their way up a pile: what a disk gives, as the pair gives it whose side the disk is.
-use Rattle.std.specs.Prelude.{ℕ, [], ◌∷◌, take, Ok, Err}
+use Rattle.std.specs.Prelude.{ℕ, List, [], ◌∷◌, take, Ok, Err}
 use Rattle.disks.specs.Values.{CauseValues, RefusalValues, PastEnd, IsDark, IsLost, Answer}
 
 -- the cause of a call on block k, with an empty trail: it met the cut or the death itself
@@ -11,8 +11,11 @@ abbrev pub unjoined_cause : CauseValues
 unjoined_cause = cause_at 0 0
 
 -- the side put before the trail; a trail has room for eight
+abbrev pub trail_under : ℕ → List ℕ → List ℕ
+trail_under i t = take 8 (i ∷ t)
+
 abbrev pub cause_under : ℕ → CauseValues → CauseValues
-cause_under i c = record { call = c.call; block = c.block; trail = take 8 (i ∷ c.trail) }
+cause_under i c = record { call = c.call; block = c.block; trail = trail_under i c.trail }
 
 -- a side's refusal and answer, as its pair gives them
 abbrev pub refusal_under : ℕ → RefusalValues → RefusalValues

@@ -11,7 +11,7 @@ pub fn count_blocks(bytes: &[u8]) -> u16
     ensures { result ≡ whole_blocks bytes.now }
 {
     let whole = bytes.len() / BLOCK_BYTES;
-    if whole < 65535 { whole as u16 } else { 65535 }
+    u16::try_from(whole).unwrap_or(u16::MAX)
 }
 
 // Puts a block of the bytes into the place. Past the last block it leaves the place as it was.
@@ -27,7 +27,7 @@ pub(crate) fn copy_block(bytes: &[u8], block: u16, place: &mut Block)
     requires { block < whole_blocks bytes.now }
     ensures { place.new ≡ block_of bytes.now block }
 {
-    let start = BLOCK_BYTES * block as usize;
+    let start = BLOCK_BYTES * usize::from(block);
     place.copy_from_slice(&bytes[start..start + BLOCK_BYTES]);
 }
 
@@ -37,7 +37,7 @@ pub fn put_block(bytes: &mut [u8], block: u16, content: &Block)
     ensures apart { BlocksApart }
 {
     if block < count_blocks(bytes) {
-        let from = BLOCK_BYTES * block as usize;
+        let from = BLOCK_BYTES * usize::from(block);
         bytes[from..from + BLOCK_BYTES].copy_from_slice(content);
     }
 }

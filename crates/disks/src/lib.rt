@@ -7,5 +7,6 @@ pub mod disk;
 pub mod image;
 pub mod reader;
 pub mod refusal;
+pub mod side;
 pub mod state;
-mod trail;
+pub mod trail;

@@ -1,8 +1,11 @@
 // The answers of a reader or a disk that are not done.
-ghost use Rattle.std.specs.Prelude.{◌≡◌};
-ghost use Rattle.disks.specs.Values.{refusal_values, numbered, meaning_of, TellsApart};
+ghost use Rattle.std.specs.Prelude.{◌≡◌, Some};
+ghost use Rattle.disks.specs.Values.{side_number, refusal_values, numbered, meaning_of, TellsApart};
+ghost use Rattle.disks.specs.Trails.{refusal_under};
 
 use crate::cause::Cause;
+use crate::side::Side;
+use std::fmt;
 
 #[derive(Clone, Copy, Debug)]
 pub enum Refusal {
@@ -34,5 +37,25 @@ impl Refusal {
             Refusal::Dark(_) => "disk dark",
             Refusal::Lost(_) => "lost: disk dead",
         }
+    }
+
+    // The refusal as the pair gives it whose side the disk is.
+    pub fn under(self, side: Side) -> Refusal
+        ensures { refusal_values result ≡ refusal_under (side_number side) (refusal_values self) }
+    {
+        match self {
+            Refusal::PastEnd => Refusal::PastEnd,
+            Refusal::Dark(cause) => Refusal::Dark(cause.under(side)),
+            Refusal::Lost(cause) => Refusal::Lost(cause.under(side)),
+        }
+    }
+}
+
+// Its meaning in words.
+impl fmt::Display for Refusal {
+    ghost output = { λ e. Some (meaning_of (refusal_values e)) };
+
+    fn fmt<W: fmt::Write>(&self, f: &mut fmt::Formatter<W>) -> fmt::Result {
+        f.write_str(self.meaning())
     }
 }

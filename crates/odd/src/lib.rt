@@ -8,7 +8,7 @@ ghost use Rattle.odd.specs.Darkness.{dark_state, dark_view, Sound, refuses, refu
 ghost use Rattle.odd.specs.Keeping.{dark_proper, at_block, barrier_law, restart_law};
 
 use disks::block::Block;
-use disks::cause::{Cause, RESTART};
+use disks::cause::{Call, Cause};
 use disks::disk::Disk;
 use disks::reader::Reader;
 use disks::refusal::Refusal;
@@ -32,7 +32,7 @@ impl AlwaysDark {
     pub fn refused(&self) -> u64
         ensures { result ≡ self.now.refused }
     {
-        let AlwaysDark { size: _, refused } = self;
+        let AlwaysDark { refused, .. } = self;
         *refused
     }
 
@@ -40,7 +40,7 @@ impl AlwaysDark {
         ensures { (refusal_values result, self.new) ≡ refuses self.old }
     {
         self.refused = self.refused.saturating_add(1);
-        Refusal::Dark(Cause::at(RESTART, 0))
+        Refusal::Dark(Cause::at(Call::Restart))
     }
 
     fn refuse_at(&mut self, block: u16) -> Refusal
@@ -71,7 +71,7 @@ impl Reader for AlwaysDark {
     }
 
     fn state(&self) -> State {
-        State::Dark(Cause::at(RESTART, 0))
+        State::Dark(Cause::at(Call::Restart))
     }
 
     fn read(&mut self, block: u16, _place: &mut Block) -> Result<(), Refusal> {

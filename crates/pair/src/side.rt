@@ -1,6 +1,6 @@
 // The sides' part in a call of their pair.
 ghost use Rattle.std.specs.Prelude.{◌≡◌};
-ghost use Rattle.disks.specs.Values.{answer_values};
+ghost use Rattle.disks.specs.Values.{answer_values, side_number};
 ghost use Rattle.disks.specs.Trails.{answer_under};
 ghost use Rattle.pair.specs.Calls.{is_dark, Part, WriteOf, InTurn};
 
@@ -8,6 +8,7 @@ use disks::block::Block;
 use disks::disk::Disk;
 use disks::reader::Reader;
 use disks::refusal::Refusal;
+use disks::side::Side;
 use disks::state::State;
 
 // Side 0, then, unless that answered dark, side 1.
@@ -62,8 +63,8 @@ pub(crate) fn is_dark(answer: &Result<(), Refusal>) -> bool
 }
 
 // A side's answer as its pair gives it.
-pub(crate) fn under(side: u8, answer: Result<(), Refusal>) -> Result<(), Refusal>
-    ensures { answer_values result ≡ answer_under side (answer_values answer) }
+pub(crate) fn under(side: Side, answer: Result<(), Refusal>) -> Result<(), Refusal>
+    ensures { answer_values result ≡ answer_under (side_number side) (answer_values answer) }
 {
     match answer {
         Ok(()) => Ok(()),

@@ -2,4 +2,3 @@ pub mod Dividing
 mod Reading
 mod Spelling
 mod Scheduling
-mod Trails

@@ -1,17 +1,8 @@
 -- The lines of answers, as bytes.
-use Rattle.std.specs.Prelude.{ℕ, List, [], ◌∷◌, ◌++◌, Ok, Err, codes, decimal, slice_index}
-use Rattle.std.specs.List.{flat_map}
-use Rattle.disks.specs.Values.{CauseValues, RefusalValues, PastEnd, IsDark, IsLost, Answer}
+use Rattle.std.specs.Prelude.{ℕ, List, ◌++◌, Ok, Err, codes, decimal, slice_index}
+use Rattle.disks.specs.Values.{RefusalValues, PastEnd, IsDark, IsLost, Answer}
 use Rattle.disks.specs.Meaning.{Shown}
-
--- the sides of a trail, top first and with nothing between, or a dash if there are none
-abbrev pub trail_text : List ℕ → List ℕ
-trail_text [] = codes "-"
-trail_text (s ∷ ss) = flat_map decimal (s ∷ ss)
-
--- call, block and trail
-abbrev pub cause_text : CauseValues → List ℕ
-cause_text c = decimal c.call ++ (codes " " ++ (decimal c.block ++ (codes " " ++ trail_text c.trail)))
+use Rattle.disks.specs.Text.{cause_text}
 
 abbrev pub refusal_line : RefusalValues → List ℕ
 refusal_line PastEnd = codes "1\n"

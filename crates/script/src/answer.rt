@@ -1,11 +1,10 @@
 // The line of a disk's answer.
-ghost use Rattle.std.specs.Prelude.{◌≡◌, take, IfOk, string_bytes};
-ghost use Rattle.disks.specs.Values.{answer_values, cause_values, refusal_values};
+ghost use Rattle.std.specs.Prelude.{◌≡◌, IfOk, string_bytes};
+ghost use Rattle.disks.specs.Values.{answer_values, refusal_values};
 ghost use Rattle.disks.specs.Meaning.{shown};
-ghost use Rattle.script.specs.Answers.{trail_text, cause_text, refusal_line, read_line, call_line};
+ghost use Rattle.script.specs.Answers.{refusal_line, read_line, call_line};
 
 use disks::block::Block;
-use disks::cause::Cause;
 use disks::refusal::Refusal;
 use std::alloc::{AllocError, Global};
 
@@ -18,10 +17,7 @@ pub fn tell_read(
     ensures { IfOk result (λ s. string_bytes s ≡ read_line (shown answer place.now)) }
 {
     match answer {
-        Ok(()) => {
-            let first = place[0];
-            format!(in heap; "0 {first}\n")
-        }
+        Ok(()) => format!(in heap; "0 {}\n", place[0]),
         Err(refusal) => tell_refusal(heap, refusal),
     }
 }
@@ -41,43 +37,7 @@ fn tell_refusal(heap: Global, refusal: Refusal) -> Result<String, AllocError>
 {
     match refusal {
         Refusal::PastEnd => String::from_str(heap, "1\n"),
-        Refusal::Dark(cause) => {
-            let text = tell_cause(heap, cause)?;
-            format!(in heap; "2 {text}\n")
-        }
-        Refusal::Lost(cause) => {
-            let text = tell_cause(heap, cause)?;
-            format!(in heap; "3 {text}\n")
-        }
+        Refusal::Dark(cause) => format!(in heap; "2 {cause}\n"),
+        Refusal::Lost(cause) => format!(in heap; "3 {cause}\n"),
     }
-}
-
-fn tell_cause(heap: Global, cause: Cause) -> Result<String, AllocError>
-    ensures { IfOk result (λ s. string_bytes s ≡ cause_text (cause_values cause)) }
-{
-    let Cause {
-        call,
-        block,
-        depth,
-        sides,
-    } = cause;
-    let trail = tell_trail(heap, depth, &sides)?;
-    format!(in heap; "{call} {block} {trail}")
-}
-
-// The sides one after another, or a dash.
-fn tell_trail(heap: Global, depth: u8, sides: &[u8]) -> Result<String, AllocError>
-    ensures { IfOk result (λ s. string_bytes s ≡ trail_text (take depth sides.now)) }
-{
-    let count = sides.len().min(usize::from(depth));
-    if count == 0 {
-        return String::from_str(heap, "-");
-    }
-    let mut text = String::new(heap);
-    for i in 0..count {
-        let side = sides[i];
-        let digits = format!(in heap; "{side}")?;
-        text.push_str(digits.as_str())?;
-    }
-    Ok(text)
 }

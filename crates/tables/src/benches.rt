@@ -1,5 +1,6 @@
 // Calls on bench disks, through cuts and deaths.
-use crate::calls::{BARRIER, READ, RESTART, WRITE, buffered, plain, play};
+use crate::calls::{buffered, plain, play};
+use disks::cause::Call;
 use disks::reader::Reader;
 use std::test::Fail;
 
@@ -12,12 +13,12 @@ fn picks(rt: HostRuntime) -> Result<(), Fail> {
             &rt,
             &mut disk,
             &[
-                (WRITE, 0, 7, 0),
-                (WRITE, 0, 8, 0),
-                (BARRIER, 0, 0, 2),
-                (READ, 0, 0, 2),
-                (RESTART, 0, 0, 0),
-                (READ, 0, shown, 0),
+                (Call::Write(0), 7, 0),
+                (Call::Write(0), 8, 0),
+                (Call::Barrier, 0, 2),
+                (Call::Read(0), 0, 2),
+                (Call::Restart, 0, 0),
+                (Call::Read(0), shown, 0),
             ],
         );
     }
@@ -30,17 +31,21 @@ fn seventeen_writes(rt: HostRuntime) -> Result<(), Fail> {
     for (pick, second, last) in [(0, 0, 0), (1, 2, 0), (32768, 0, 17), (65535, 2, 17)] {
         let mut disk = buffered(rt.alloc(), 17 * 512, &[0x40000011 + 16384 * pick])?;
         for block in 0..17u8 {
-            play(&rt, &mut disk, &[(WRITE, u16::from(block), block + 1, 0)]);
+            play(
+                &rt,
+                &mut disk,
+                &[(Call::Write(u16::from(block)), block + 1, 0)],
+            );
         }
         play(
             &rt,
             &mut disk,
             &[
-                (READ, 0, 0, 2),
-                (RESTART, 0, 0, 0),
-                (READ, 0, 1, 0),
-                (READ, 1, second, 0),
-                (READ, 16, last, 0),
+                (Call::Read(0), 0, 2),
+                (Call::Restart, 0, 0),
+                (Call::Read(0), 1, 0),
+                (Call::Read(1), second, 0),
+                (Call::Read(16), last, 0),
             ],
         );
     }
@@ -61,10 +66,10 @@ fn restart_of_a_disk_that_is_on(rt: HostRuntime) -> Result<(), Fail> {
             &rt,
             &mut disk,
             &[
-                (WRITE, 0, 5, 0),
-                (RESTART, 0, 0, answer),
-                (RESTART, 0, 0, 0),
-                (READ, 0, shown, 0),
+                (Call::Write(0), 5, 0),
+                (Call::Restart, 0, answer),
+                (Call::Restart, 0, 0),
+                (Call::Read(0), shown, 0),
             ],
         );
     }
@@ -79,18 +84,18 @@ fn before_and_after(rt: HostRuntime) -> Result<(), Fail> {
         0xC0000000,
     ];
     let rows = [
-        (WRITE, 0, 4, 2),
-        (RESTART, 0, 0, 0),
-        (WRITE, 1, 5, 2),
-        (RESTART, 0, 0, 0),
-        (READ, 1, 5, 2),
-        (RESTART, 0, 0, 0),
-        (READ, 1, 5, 0),
-        (WRITE, 1, 6, 3),
-        (RESTART, 0, 0, 3),
-        (READ, 2, 0, 1),
-        (READ, 0, 0, 3),
-        (BARRIER, 0, 0, 3),
+        (Call::Write(0), 4, 2),
+        (Call::Restart, 0, 0),
+        (Call::Write(1), 5, 2),
+        (Call::Restart, 0, 0),
+        (Call::Read(1), 5, 2),
+        (Call::Restart, 0, 0),
+        (Call::Read(1), 5, 0),
+        (Call::Write(1), 6, 3),
+        (Call::Restart, 0, 3),
+        (Call::Read(2), 0, 1),
+        (Call::Read(0), 0, 3),
+        (Call::Barrier, 0, 3),
     ];
     play(&rt, &mut plain(rt.alloc(), 1024, &words)?, &rows);
     play(&rt, &mut buffered(rt.alloc(), 1024, &words)?, &rows);
@@ -102,13 +107,13 @@ fn before_and_after(rt: HostRuntime) -> Result<(), Fail> {
 fn refused_calls_take_no_step(rt: HostRuntime) -> Result<(), Fail> {
     let words = [0x40000000, 0xC0000000];
     let rows = [
-        (READ, 1, 0, 1),
-        (WRITE, 65535, 0, 1),
-        (READ, 0, 0, 2),
-        (WRITE, 0, 0, 2),
-        (WRITE, 1, 0, 1),
-        (BARRIER, 0, 0, 2),
-        (RESTART, 0, 0, 3),
+        (Call::Read(1), 0, 1),
+        (Call::Write(65535), 0, 1),
+        (Call::Read(0), 0, 2),
+        (Call::Write(0), 0, 2),
+        (Call::Write(1), 0, 1),
+        (Call::Barrier, 0, 2),
+        (Call::Restart, 0, 3),
     ];
     play(&rt, &mut plain(rt.alloc(), 512, &words)?, &rows);
     play(&rt, &mut buffered(rt.alloc(), 512, &words)?, &rows);
@@ -124,10 +129,9 @@ fn sizes(rt: HostRuntime) -> Result<(), Fail> {
             &rt,
             &mut disk,
             &[
-                (WRITE, size, 9, 1),
+                (Call::Write(size), 9, 1),
                 (
-                    WRITE,
-                    size.saturating_sub(1),
+                    Call::Write(size.saturating_sub(1)),
                     9,
                     if size == 0 { 1 } else { 0 },
                 ),
@@ -148,10 +152,10 @@ fn memory_taken_out(rt: HostRuntime) -> Result<(), Fail> {
         &rt,
         &mut disk,
         &[
-            (WRITE, 0, 3, 0),
-            (BARRIER, 0, 0, 0),
-            (WRITE, 1, 4, 0),
-            (READ, 1, 4, 0),
+            (Call::Write(0), 3, 0),
+            (Call::Barrier, 0, 0),
+            (Call::Write(1), 4, 0),
+            (Call::Read(1), 4, 0),
         ],
     );
     let memory = disk.into_memory();

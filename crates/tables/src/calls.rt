@@ -3,22 +3,15 @@ use crate::sample::filled;
 use bench::schedule::Schedule;
 use bench_disks::buffered::Buffered;
 use bench_disks::plain::Plain;
+use disks::cause::Call;
 use disks::disk::Disk;
 use disks::reader::Reader;
 use disks::refusal::Refusal;
 use std::alloc::{AllocError, Global};
 use std::process::Abort;
 
-// A call by its number as in a cause, its block, the byte that a write fills a block with or that a done read shows, and the answer's number.
-pub type Row = (u8, u16, u8, u8);
-
-pub const READ: u8 = 1;
-
-pub const WRITE: u8 = 2;
-
-pub const BARRIER: u8 = 3;
-
-pub const RESTART: u8 = 4;
+// A call, the byte that a write fills a block with or that a done read shows, and the answer's number.
+pub type Row = (Call, u8, u8);
 
 pub fn number_of(answer: Result<(), Refusal>) -> u8 {
     match answer {
@@ -29,19 +22,18 @@ pub fn number_of(answer: Result<(), Refusal>) -> u8 {
 
 // Makes the calls and checks each answer; a refused read leaves the place at 255.
 pub fn play<D: Disk>(rt: &impl Abort, disk: &mut D, rows: &[Row]) {
-    for (call, block, byte, number) in rows.iter().copied() {
+    for (call, byte, number) in rows.iter().copied() {
         let mut place = [255u8; 512];
         let answer = match call {
-            READ => disk.read(block, &mut place),
-            WRITE => disk.write(block, &[byte; 512]),
-            BARRIER => disk.barrier(),
-            _ => disk.restart(),
+            Call::Read(block) => disk.read(block, &mut place),
+            Call::Write(block) => disk.write(block, &[byte; 512]),
+            Call::Barrier => disk.barrier(),
+            Call::Restart => disk.restart(),
         };
         assert_eq!(rt; number_of(answer), number);
-        let shown = if call == READ && number == 0 {
-            byte
-        } else {
-            255
+        let shown = match call {
+            Call::Read(_) if number == 0 => byte,
+            _ => 255,
         };
         assert_eq!(rt; place[511], shown);
     }

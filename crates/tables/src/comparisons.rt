@@ -4,7 +4,7 @@ use compare::images::compare_images;
 use compare::report::{report, stop_line, unreadable_line};
 use compare::room::Room;
 use compare::stop::{Side, Stop};
-use disks::cause::Cause;
+use disks::cause::{Call, Cause};
 use disks::refusal::Refusal;
 use std::test::Fail;
 use store::look_refusal::LookRefusal;
@@ -61,12 +61,7 @@ fn longer_plans_are_told(rt: HostRuntime) -> Result<(), Fail> {
 
 #[test]
 fn refusals_are_told(rt: HostRuntime) -> Result<(), Fail> {
-    let cause = Cause {
-        call: 2,
-        block: 5,
-        depth: 1,
-        sides: [1, 0, 0, 0, 0, 0, 0, 0],
-    };
+    let cause = Cause::at(Call::Write(5)).under(disks::side::Side::One);
     let table: [(LookRefusal, &str); 6] = [
         (
             LookRefusal::Disk(Refusal::PastEnd),

@@ -1,10 +1,12 @@
 // Pairs and piles of bench disks, through each cut and each death in a restart.
-use crate::calls::{BARRIER, READ, RESTART, WRITE, buffered, number_of, plain, play};
+use crate::calls::{buffered, number_of, plain, play};
 use bench_disks::buffered::Buffered;
 use bench_disks::plain::Plain;
+use disks::cause::Call;
 use disks::disk::Disk;
 use disks::reader::Reader;
 use disks::refusal::Refusal;
+use disks::side::Side;
 use pair::pair::Pair;
 use std::alloc::Global;
 use std::process::Abort;
@@ -26,42 +28,49 @@ fn low(heap: Global, words0: &[u32], words1: &[u32]) -> Result<Low, Fail> {
     join(plain(heap, 1024, words0)?, buffered(heap, 1024, words1)?)
 }
 
-// The number of an answer, and the call, the block and the trail of its cause.
-fn told(answer: Result<(), Refusal>) -> (u8, u8, u16, u8, u8, u8) {
+// The answer has this number, and its cause this call and these sides.
+fn check_cause(
+    rt: &impl Abort,
+    answer: Result<(), Refusal>,
+    number: u8,
+    call: Option<Call>,
+    sides: &[Side],
+) {
+    assert_eq!(rt; number_of(answer), number);
     match answer {
-        Ok(()) => (0, 0, 0, 0, 0, 0),
-        Err(Refusal::PastEnd) => (1, 0, 0, 0, 0, 0),
-        Err(Refusal::Dark(c)) => (2, c.call, c.block, c.depth, c.sides[0], c.sides[1]),
-        Err(Refusal::Lost(c)) => (3, c.call, c.block, c.depth, c.sides[0], c.sides[1]),
+        Err(Refusal::Dark(cause) | Refusal::Lost(cause)) => {
+            assert!(rt; cause.call == call);
+            assert!(rt; cause.trail.sides() == sides);
+        }
+        Ok(()) | Err(Refusal::PastEnd) => panic!(rt; "no cause"),
     }
 }
 
-// A side, the number of empty steps before its event, and the call and block that meet it. The first restart takes three steps of side 0
-// and four of side 1, then come a write and a barrier, and the second restart meets the event.
-const RESTART_STEPS: [(u8, u32, u8, u16); 7] = [
-    (0, 5, RESTART, 0),
-    (0, 6, READ, 0),
-    (0, 7, READ, 1),
-    (1, 6, RESTART, 0),
-    (1, 7, WRITE, 0),
-    (1, 8, WRITE, 1),
-    (1, 9, BARRIER, 0),
+// A side, the number of empty steps before its event, and the call that meets it. The first restart takes three steps of side 0 and four
+// of side 1, then come a write and a barrier, and the second restart meets the event.
+const RESTART_STEPS: [(Side, u32, Call); 7] = [
+    (Side::Zero, 5, Call::Restart),
+    (Side::Zero, 6, Call::Read(0)),
+    (Side::Zero, 7, Call::Read(1)),
+    (Side::One, 6, Call::Restart),
+    (Side::One, 7, Call::Write(0)),
+    (Side::One, 8, Call::Write(1)),
+    (Side::One, 9, Call::Barrier),
 ];
 
-fn with_event(rt: &impl Abort, heap: Global, side: u8, word: u32) -> Result<Low, Fail> {
-    let mut pair = if side == 0 {
-        low(heap, &[word], &[])?
-    } else {
-        low(heap, &[], &[word])?
+fn with_event(rt: &impl Abort, heap: Global, side: Side, word: u32) -> Result<Low, Fail> {
+    let mut pair = match side {
+        Side::Zero => low(heap, &[word], &[])?,
+        Side::One => low(heap, &[], &[word])?,
     };
     play(
         rt,
         &mut pair,
         &[
-            (READ, 0, 0, 2),
-            (RESTART, 0, 0, 0),
-            (WRITE, 0, 7, 0),
-            (BARRIER, 0, 0, 0),
+            (Call::Read(0), 0, 2),
+            (Call::Restart, 0, 0),
+            (Call::Write(0), 7, 0),
+            (Call::Barrier, 0, 0),
         ],
     );
     Ok(pair)
@@ -69,15 +78,19 @@ fn with_event(rt: &impl Abort, heap: Global, side: u8, word: u32) -> Result<Low,
 
 #[test]
 fn cuts_in_a_restart(rt: HostRuntime) -> Result<(), Fail> {
-    for (side, gap, call, block) in RESTART_STEPS {
+    for (side, gap, call) in RESTART_STEPS {
         for verb in [0x40000000u32, 0x80000000] {
             let mut pair = with_event(&rt, rt.alloc(), side, verb + gap)?;
-            assert_eq!(rt; told(pair.restart()), (2, call, block, 1, side, 0));
-            assert_eq!(rt; told(pair.barrier()), (2, call, block, 1, side, 0));
+            check_cause(&rt, pair.restart(), 2, Some(call), &[side]);
+            check_cause(&rt, pair.barrier(), 2, Some(call), &[side]);
             play(
                 &rt,
                 &mut pair,
-                &[(RESTART, 0, 0, 0), (READ, 0, 7, 0), (READ, 1, 0, 0)],
+                &[
+                    (Call::Restart, 0, 0),
+                    (Call::Read(0), 7, 0),
+                    (Call::Read(1), 0, 0),
+                ],
             );
         }
     }
@@ -86,20 +99,20 @@ fn cuts_in_a_restart(rt: HostRuntime) -> Result<(), Fail> {
 
 #[test]
 fn deaths_in_a_restart(rt: HostRuntime) -> Result<(), Fail> {
-    for (side, gap, _, _) in RESTART_STEPS {
+    for (side, gap, _) in RESTART_STEPS {
         let mut pair = with_event(&rt, rt.alloc(), side, 0xC0000000 + gap)?;
         play(
             &rt,
             &mut pair,
             &[
-                (RESTART, 0, 0, 0),
-                (READ, 0, 7, 0),
-                (WRITE, 1, 8, 0),
-                (BARRIER, 0, 0, 0),
-                (RESTART, 0, 0, 0),
-                (READ, 0, 7, 0),
-                (READ, 1, 8, 0),
-                (READ, 2, 0, 1),
+                (Call::Restart, 0, 0),
+                (Call::Read(0), 7, 0),
+                (Call::Write(1), 8, 0),
+                (Call::Barrier, 0, 0),
+                (Call::Restart, 0, 0),
+                (Call::Read(0), 7, 0),
+                (Call::Read(1), 8, 0),
+                (Call::Read(2), 0, 1),
             ],
         );
     }
@@ -110,13 +123,18 @@ fn deaths_in_a_restart(rt: HostRuntime) -> Result<(), Fail> {
 #[test]
 fn both_sides_die(rt: HostRuntime) -> Result<(), Fail> {
     let mut pair = low(rt.alloc(), &[0xC0000003], &[0xC0000004])?;
-    play(&rt, &mut pair, &[(RESTART, 0, 0, 0)]);
-    assert_eq!(rt; told(pair.write(1, &[7; 512])), (3, WRITE, 1, 1, 1, 0));
-    assert_eq!(rt; told(pair.restart()), (3, WRITE, 1, 1, 1, 0));
+    play(&rt, &mut pair, &[(Call::Restart, 0, 0)]);
+    let call = Some(Call::Write(1));
+    check_cause(&rt, pair.write(1, &[7; 512]), 3, call, &[Side::One]);
+    check_cause(&rt, pair.restart(), 3, call, &[Side::One]);
     play(
         &rt,
         &mut pair,
-        &[(READ, 2, 0, 1), (READ, 1, 0, 3), (BARRIER, 0, 0, 3)],
+        &[
+            (Call::Read(2), 0, 1),
+            (Call::Read(1), 0, 3),
+            (Call::Barrier, 0, 3),
+        ],
     );
     Ok(())
 }
@@ -129,7 +147,13 @@ fn trail_of_two_sides(rt: HostRuntime) -> Result<(), Fail> {
         buffered(rt.alloc(), 1024, &[])?,
     )?;
     assert_eq!(rt; pile.height(), 2);
-    assert_eq!(rt; told(pile.restart()), (2, RESTART, 0, 2, 0, 1));
+    check_cause(
+        &rt,
+        pile.restart(),
+        2,
+        Some(Call::Restart),
+        &[Side::Zero, Side::One],
+    );
     assert_eq!(rt; number_of(pile.restart()), 0);
     Ok(())
 }
@@ -149,11 +173,11 @@ fn write_through<D: Disk>(rt: &impl Abort, disk: &mut D) -> Result<(), Fail> {
     bring_up(disk)?;
     if disk.write(0, &[7; 512]).is_err() {
         bring_up(disk)?;
-        play(rt, disk, &[(WRITE, 0, 7, 0)]);
+        play(rt, disk, &[(Call::Write(0), 7, 0)]);
     }
     if disk.barrier().is_err() {
         bring_up(disk)?;
-        play(rt, disk, &[(WRITE, 0, 7, 0), (BARRIER, 0, 0, 0)]);
+        play(rt, disk, &[(Call::Write(0), 7, 0), (Call::Barrier, 0, 0)]);
     }
     bring_up(disk)?;
     assert_eq!(rt; read_back(rt, disk, 0)?, 7);
@@ -199,13 +223,17 @@ fn pile_of_height_two(rt: HostRuntime) -> Result<(), Fail> {
 #[test]
 fn one_side_dead_at_the_making(rt: HostRuntime) -> Result<(), Fail> {
     let mut dead = plain(rt.alloc(), 512, &[0xC0000000])?;
-    play(&rt, &mut dead, &[(BARRIER, 0, 0, 3)]);
+    play(&rt, &mut dead, &[(Call::Barrier, 0, 3)]);
     let mut pair = join(dead, buffered(rt.alloc(), 512, &[])?)?;
-    assert_eq!(rt; told(pair.barrier()), (2, 0, 0, 0, 0, 0));
+    check_cause(&rt, pair.barrier(), 2, None, &[]);
     play(
         &rt,
         &mut pair,
-        &[(RESTART, 0, 0, 0), (WRITE, 0, 5, 0), (READ, 0, 5, 0)],
+        &[
+            (Call::Restart, 0, 0),
+            (Call::Write(0), 5, 0),
+            (Call::Read(0), 5, 0),
+        ],
     );
     Ok(())
 }
@@ -217,10 +245,10 @@ fn sizes_of_pairs(rt: HostRuntime) -> Result<(), Fail> {
         &rt,
         &mut none,
         &[
-            (RESTART, 0, 0, 0),
-            (READ, 0, 0, 1),
-            (WRITE, 0, 0, 1),
-            (BARRIER, 0, 0, 0),
+            (Call::Restart, 0, 0),
+            (Call::Read(0), 0, 1),
+            (Call::Write(0), 0, 1),
+            (Call::Barrier, 0, 0),
         ],
     );
     let mut one = join(
@@ -232,10 +260,10 @@ fn sizes_of_pairs(rt: HostRuntime) -> Result<(), Fail> {
         &rt,
         &mut one,
         &[
-            (RESTART, 0, 0, 0),
-            (WRITE, 0, 3, 0),
-            (READ, 0, 3, 0),
-            (READ, 1, 0, 1),
+            (Call::Restart, 0, 0),
+            (Call::Write(0), 3, 0),
+            (Call::Read(0), 3, 0),
+            (Call::Read(1), 0, 1),
         ],
     );
     match Pair::new(

@@ -9,6 +9,7 @@ use disks::block::Block;
 use disks::disk::Disk;
 use disks::reader::Reader;
 use disks::refusal::Refusal;
+use disks::side::Side;
 use disks::state::State;
 
 impl<A: Disk, B: Disk> Pair<A, B> {
@@ -21,11 +22,11 @@ impl<A: Disk, B: Disk> Pair<A, B> {
         }
         self.state().answer()?;
         if let State::Dead(_) = self.side0.state() {
-            return under(1, self.side1.read(block, place));
+            return under(Side::One, self.side1.read(block, place));
         }
         match self.side0.read(block, place) {
-            Err(Refusal::Lost(_)) => under(1, self.side1.read(block, place)),
-            answer => under(0, answer),
+            Err(Refusal::Lost(_)) => under(Side::One, self.side1.read(block, place)),
+            answer => under(Side::Zero, answer),
         }
     }
 

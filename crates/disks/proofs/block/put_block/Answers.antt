@@ -1,10 +1,10 @@
-use Rattle.std.proofs.Common.{sym, refl, arith}
+use Rattle.std.proofs.Common.{rules, sym, arith}
 use Rattle.disks.proofs.Blocks.{blocks_apart, copied_in, not_below}
 use Rattle.disks.proofs.block.put_block.Goals as goal
 
 pub returns-then-block-count_blocks : goal.returns-then-block-count_blocks
 returns-then-block-count_blocks c = record {
-  after = copied_in c.args.bytes.now c.args.content.now c.copy_from_slice.new.self _ c.args.block refl c.copy_from_slice.ensures.after (omega arith);
+  after = copied_in c.args.bytes.now c.args.content.now c.copy_from_slice.new.self _ c.args.block (search rules) c.copy_from_slice.ensures.after (omega arith);
   apart = blocks_apart;
 }
 

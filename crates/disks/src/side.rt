@@ -1,0 +1,21 @@
+// The sides of a pair.
+ghost use Rattle.std.specs.Prelude.{◌≡◌};
+ghost use Rattle.disks.specs.Values.{side_number};
+
+#[derive(Clone, Copy, Debug, PartialEq, Eq)]
+pub enum Side {
+    Zero,
+    One,
+}
+
+impl Side {
+    // The number by which a trail names the side.
+    pub fn number(self) -> u8
+        ensures { result ≡ side_number self }
+    {
+        match self {
+            Side::Zero => 0,
+            Side::One => 1,
+        }
+    }
+}
