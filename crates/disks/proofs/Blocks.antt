@@ -1,11 +1,10 @@
 -- Getting and putting blocks of bytes in a row.
-use Rattle.std.proofs.Common.{◌≡◌, ℕ, ◌+◌, ◌-◌, ◌*◌, ◌<◌, ◌≤◌, Bool, cond, ltb, ◌≢◌, List, ◌++◌, length, get_or, take, drop, ap, ◌∙◌, inl, inr, arith}
-use native.Mathlib.Decide.{dec_lt}
+use Rattle.std.proofs.Common.{◌≡◌, ℕ, ◌+◌, ◌-◌, ◌*◌, ◌<◌, ◌≤◌, Bool, cond, ltb, ◌≢◌, List, ◌++◌, length, take, drop, ap, ◌∙◌, inl, inr, arith}
 use borrow.Rule.Slice.PartMut.{put_mid}
-use Rattle.std.proofs.lemmas.List.{drop-drop, length-take-le, length-append, length-drop, take_at, drop_at, get_or-take, get_or-drop, get_or_past}
+use Rattle.std.proofs.lemmas.List.{drop-drop, length-take-le, length-append, length-drop, take_at, drop_at}
 use Rattle.std.proofs.lemmas.Slice.{between_is, take-put_mid_below, drop-put_mid}
 use Rattle.std.proofs.lemmas.Bool.{cases_lt, lt-ltb, le-ltb}
-use Rattle.disks.specs.Meaning.{Content, Whole}
+use Rattle.disks.specs.Meaning.{Content}
 use Rattle.disks.specs.Blocks.{whole_blocks, block_of, with_block, BlocksApart}
 
 -- the way of a test on a block, below the size and past it
@@ -14,17 +13,6 @@ below {X} k n x y h = ap (λ (t : Bool). cond {A = X} t x y) (lt-ltb k n h)
 
 pub not_below : {X : Type 0} (k n : ℕ) (x y : X) → n ≤ k → cond (ltb k n) x y ≡ y
 not_below {X} k n x y h = ap (λ (t : Bool). cond {A = X} t x y) (le-ltb k n h)
-
--- a block of bytes is whole
-pub block_whole : (bytes : List ℕ) (k : ℕ) → ((j : ℕ) → get_or bytes j 0 < 256) → k < whole_blocks bytes → Whole (block_of bytes k)
-block_whole bytes k fits lt = record { long = long; bytes = λ i. byte i (dec_lt i 512) }
-  where
-    long : length (block_of bytes k) ≡ 512
-    long = length-take-le 512 (drop (512 * k) bytes) (rw length-drop (omega arith))
-
-    byte : (i : ℕ) → Dec (i < 512) → get_or (block_of bytes k) i 0 < 256
-    byte i (yes h) = rw (get_or-take 512 (drop (512 * k) bytes) i 0 h, get_or-drop (512 * k) bytes i 0) (fits (512 * k + i))
-    byte i (no h) = let past = get_or_past (block_of bytes k) i 0 (let e = long in omega arith) in omega (arith, past)
 
 module _ (bytes : List ℕ) (k : ℕ) (b : Content) (within : 512 * k + 512 ≤ length bytes) (whole : length b ≡ 512) where
   -- what the code's copy into a part of a slice comes to

@@ -8,15 +8,6 @@ on_or_off On = inl refl
 on_or_off (Dark c) = inr tt
 on_or_off (Dead c) = inr tt
 
-pub same : (v : View) → Unchanged v v
-same v = record {
-  kept = record { size = refl; height = refl };
-  state = refl;
-  faces = λ j lt. refl;
-  gained = λ j b lt x. x;
-  lost = λ j b lt x. x;
-}
-
 -- one call after the other
 module _ (v m w : View) where
   pub kept_then : Kept v m → Kept m w → Kept v w

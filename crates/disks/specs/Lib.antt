@@ -2,6 +2,8 @@ pub mod Values
 pub mod Meaning
 pub mod Blocks
 pub mod Images
+pub mod ImageLaws
 pub mod Piles
 pub mod Trails
 pub mod Text
+pub mod TrailSides

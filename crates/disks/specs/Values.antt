@@ -1,11 +1,10 @@
 -- Causes, states and answers as plain values: contracts speak of these, and never of how the code packs them.
-use Rattle.std.specs.Prelude.{◌≡◌, ℕ, List, [], ◌∷◌, map, take, Option, Some, None, Ok, Err, codes, Result}
+use Rattle.std.specs.Prelude.{◌≡◌, ℕ, List, [], ◌∷◌, map, Option, Some, None, Ok, Err, codes, Result}
 use Rattle.disks.specs.declared.cause.Call.{Call}
 use Rattle.disks.specs.declared.cause.Call.TheVariants.{Read, Write, Barrier, Restart}
 use Rattle.disks.specs.declared.cause.Cause.{Cause}
 use Rattle.disks.specs.declared.side.Side.{Side}
 use Rattle.disks.specs.declared.side.Side.TheVariants.{Zero, One}
-use Rattle.disks.specs.declared.trail.Trail.{Trail}
 use Rattle.disks.specs.declared.state.State.{State}
 use Rattle.disks.specs.declared.state.State.TheVariants as state
 use Rattle.disks.specs.declared.refusal.Refusal.{Refusal}
@@ -50,12 +49,9 @@ abbrev pub side_number : Side → ℕ
 side_number Zero = 0
 side_number One = 1
 
--- the sides of a trail, top pair first
-abbrev pub sides_of : Trail → List Side
-sides_of t = take t.depth t.sides
-
-abbrev pub trail_values : Trail → List ℕ
-trail_values t = map side_number (sides_of t)
+-- the sides of a trail by their numbers, top pair first
+abbrev pub trail_values : List Side → List ℕ
+trail_values t = map side_number t
 
 -- what the code's values say
 abbrev pub cause_values : Cause → CauseValues

@@ -41,7 +41,7 @@ impl Call {
     }
 }
 
-#[derive(Clone, Copy, Debug)]
+#[derive(Clone, Copy, Debug, PartialEq, Eq)]
 pub struct Cause {
     // The call that met the cut or the death; none if none did, since a pair is not joined.
     pub call: Option<Call>,

@@ -2,7 +2,7 @@
 ghost use Rattle.std.specs.Prelude.{◌≡◌, ℕ};
 ghost use Rattle.disks.specs.Values.{Answer, answer_values};
 ghost use Rattle.disks.specs.Meaning.{Content, Means, WriteMeans, BarrierMeans, RestartMeans};
-ghost use Rattle.disks.specs.Meaning.{ProperLaw, ReadLaw, WriteLaw, BarrierLaw, RestartLaw};
+ghost use Rattle.disks.specs.Meaning.{WriteLaw, BarrierLaw, RestartLaw};
 ghost use Rattle.disks.specs.Piles.{Tree, is_dead, lost as lost_tree};
 
 use crate::block::Block;
@@ -34,10 +34,6 @@ pub trait Disk: Reader {
     fn restart(&mut self) -> Result<(), Refusal>
         ensures steps { restarts self.old (answer_values result) self.new }
         ensures means { Means Self.Reader.view Self.Reader.sound self.old self.new (λ v w. RestartMeans v (answer_values result) w) };
-
-    ghost proper: { ProperLaw Self.Reader.view Self.Reader.sound };
-
-    ghost reading: { ReadLaw Self.Reader.view Self.Reader.sound Self.Reader.reads };
 
     ghost writing: { WriteLaw Self.Reader.view Self.Reader.sound writes };
 

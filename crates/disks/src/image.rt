@@ -2,6 +2,7 @@
 ghost use Rattle.std.specs.Prelude.{◌≡◌};
 ghost use Rattle.disks.specs.Meaning.{shown, Untouched};
 ghost use Rattle.disks.specs.Images.{view_of, Sound, Reads, KeepsMeaning};
+ghost use Rattle.disks.specs.ImageLaws.{image_proper, image_reading};
 
 use crate::block::{Block, copy_block, count_blocks};
 use crate::reader::Reader;
@@ -49,6 +50,10 @@ impl<'a> Reader for Image<'a> {
     ghost sound = { Sound };
 
     ghost reads = { Reads };
+
+    ghost proper = { λ s snd. image_proper s snd };
+
+    ghost reading = { λ s t k x h snd. image_reading s t k x h snd };
 
     fn size(&self) -> u16 {
         count_blocks(self.bytes)

@@ -7,7 +7,7 @@ use crate::cause::Cause;
 use crate::side::Side;
 use std::fmt;
 
-#[derive(Clone, Copy, Debug)]
+#[derive(Clone, Copy, Debug, PartialEq, Eq)]
 pub enum Refusal {
     // 1: the block is at or past the size.
     PastEnd,

@@ -5,7 +5,7 @@ ghost use Rattle.disks.specs.Values.{state_values, answer_values, answer_by};
 use crate::cause::Cause;
 use crate::refusal::Refusal;
 
-#[derive(Clone, Copy, Debug)]
+#[derive(Clone, Copy, Debug, PartialEq, Eq)]
 pub enum State {
     On,
     // No call is done but a restart.

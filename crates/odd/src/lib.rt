@@ -62,6 +62,10 @@ impl Reader for AlwaysDark {
 
     ghost reads = { λ s k x t. Gives x t (refuses_at k s) };
 
+    ghost proper = { λ s snd. dark_proper s snd };
+
+    ghost reading = { λ s t k x h snd. at_block s t snd k _ x _ h };
+
     fn size(&self) -> u16 {
         self.size
     }
@@ -87,10 +91,6 @@ impl Disk for AlwaysDark {
     ghost restarts = { λ s r t. Gives r t (refuses s) };
 
     ghost bottoms = { λ s. bottom dark_state };
-
-    ghost proper = { λ s snd. dark_proper s snd };
-
-    ghost reading = { λ s t k x h snd. at_block s t snd k _ x _ h };
 
     ghost writing = { λ s t k b r whole h snd. at_block s t snd k _ r _ h };
 

@@ -1,4 +1,4 @@
-use Rattle.disks.proofs.Images.{image_proper, image_reading}
+use Rattle.disks.specs.ImageLaws.{image_proper, image_reading}
 use Rattle.disks.proofs.image.ImageReader.read.Goals as goal
 
 pub returns : goal.returns
