@@ -1,5 +1,5 @@
 -- What the words of a schedule say.
-use Rattle.std.specs.Prelude.{◌≡◌, ℕ, zero, suc, ◌+◌, ◌-◌, ◌*◌, ◌/◌, ◌%◌, ◌^◌, ◌<◌, cond, List, [], ◌∷◌, drop, vec_items, ◌==◌}
+use Rattle.std.specs.Prelude.{◌≡◌, ℕ, zero, suc, ◌+◌, ◌-◌, ◌*◌, ◌/◌, ◌%◌, ◌^◌, ◌<◌, cond, List, [], ◌∷◌, ◌==◌}
 use Rattle.bench.specs.declared.schedule.Verb.{Verb}
 use Rattle.bench.specs.declared.schedule.Verb.TheVariants.{Go, CutBefore, CutAfter, Kill}
 use Rattle.bench.specs.declared.schedule.Step.{Step}
@@ -50,7 +50,7 @@ step_at n ws = (step_from (left_after n ws)).0
 
 -- the words that a schedule has not used up
 abbrev pub words_left : Schedule → List ℕ
-words_left s = drop s.at (vec_items s.words)
+words_left s = s.words.items
 
 -- the word made of parts that fit their bits reads back as them
 pub record WordParts (v p g : ℕ) : Type 0 where

@@ -1,7 +1,10 @@
 // When a bench disk fails. Each call that meets a living disk takes one step of its schedule.
-ghost use Rattle.std.specs.Prelude.{◌≤◌, vec_len};
+ghost use Rattle.std.specs.Prelude.{◌≡◌};
+ghost use Rattle.bench.specs.Schedules.{words_left, step_of, step_from, SpelledOut};
 
-#[derive(Clone, Copy, Debug)]
+use std::collections::VecDeque;
+
+#[derive(Clone, Copy, Debug, PartialEq, Eq)]
 pub enum Verb {
     // 0: the call goes on.
     Go,
@@ -13,7 +16,7 @@ pub enum Verb {
     Kill,
 }
 
-#[derive(Clone, Copy, Debug)]
+#[derive(Clone, Copy, Debug, PartialEq, Eq)]
 pub struct Step {
     pub verb: Verb,
     pub pick: u16,
@@ -27,16 +30,60 @@ impl Step {
     };
 }
 
+// The verb and the pick of a word, whatever its gap.
+impl From<u32> for Step {
+    ghost from_gives = { λ word step. step ≡ step_of word };
+
+    fn from(word: u32) -> Step {
+        Step {
+            verb: match word >> 30 {
+                0 => Verb::Go,
+                1 => Verb::CutBefore,
+                2 => Verb::CutAfter,
+                _ => Verb::Kill,
+            },
+            pick: ((word >> 14) % (1 << 16)) as u16,
+        }
+    }
+}
+
 // Words of 32 bits, most significant bit first: the verb in 2, the pick in 16, the gap in 14.
 // A word is as many empty steps as its gap says, then one with its verb and pick. After the last word every step is empty.
 #[derive(Drop)]
 pub struct Schedule {
-    // What is left of them starts at `at`, where the gap is what is left of it.
-    words: Vec<u32>,
-    at: usize,
-    ghost within: { at ≤ vec_len words },
+    // What is left of them: the gap of the first is what is left of it.
+    words: VecDeque<u32>,
 }
 
-pub mod steps;
+impl Schedule {
+    // Any words make a schedule.
+    pub fn new(words: Vec<u32>) -> Schedule
+        ensures words { words_left result ≡ words.items }
+    {
+        Schedule {
+            words: VecDeque::from_vec(words),
+        }
+    }
+
+    #[tactic(auto, using(crate::proofs::Spelled::spelled_out))]
+    pub fn next_step(&mut self) -> Step
+        ensures step { (result, words_left self.new) ≡ step_from (words_left self.old) }
+        ensures law { SpelledOut }
+    {
+        let Some(word) = self.words.front_mut() else {
+            return Step::EMPTY;
+        };
+        let gap = *word % (1 << 14);
+        if gap > 0 {
+            // The gap is the low bits, so a word with one empty step less is one less.
+            *word -= 1;
+            return Step::EMPTY;
+        }
+        let step = Step::from(*word);
+        self.words.pop_front();
+        step
+    }
+}
+
 #[cfg(test)]
 mod tests;
