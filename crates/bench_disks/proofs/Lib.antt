@@ -1,3 +1,5 @@
+mod Calling
+mod Cutting
+mod Newest
 mod Reading
-mod Making
 mod Lawful

@@ -3,9 +3,8 @@ use Rattle.std.specs.Prelude.{ℕ, cond, List, [], Some, None, Err, Option, nat_
 use Rattle.disks.specs.Values.{CauseValues, StateValues, On, PastEnd, Answer, answer_by}
 use Rattle.disks.specs.Meaning.{Content, Shown}
 use Rattle.bench.specs.declared.schedule.Step.{Step}
-use Rattle.bench_disks.specs.declared.faults.Outcome.{Outcome}
 use Rattle.disks.specs.Trails.{cause_at}
-use Rattle.bench_disks.specs.Faults.{step_for, meets, step_at_restart, restart_outcome}
+use Rattle.bench_disks.specs.Faults.{Outcome, step_for, meets, step_at_restart, restart_outcome}
 use Rattle.bench_disks.specs.Waiting.{Held, size_of, face_of, cut, flush}
 
 -- a bench disk: its state, the words left of its schedule, and what it holds

@@ -1,11 +1,10 @@
 -- What the steps of a schedule do to the calls of a disk and to its state.
-use Rattle.std.specs.Prelude.{ℕ, Bool, true, false, not, ◌&&◌, List, is_some, Some, None, Option}
+use Rattle.std.specs.Prelude.{ℕ, Bool, true, false, List, Some, None, Option}
 use Rattle.disks.specs.Trails.{cause_at}
 use Rattle.disks.specs.Values.{CauseValues, StateValues, On, Dark, Dead}
 use Rattle.bench.specs.declared.schedule.Verb.{Verb}
 use Rattle.bench.specs.declared.schedule.Verb.TheVariants.{Go, CutBefore, CutAfter, Kill}
 use Rattle.bench.specs.declared.schedule.Step.{Step}
-use Rattle.bench_disks.specs.declared.faults.Outcome.{Outcome}
 use Rattle.bench.specs.Schedules.{step_from, empty_step}
 
 -- the state that a verb leaves a living disk in
@@ -15,6 +14,11 @@ state_by CutBefore c = Dark c
 state_by CutAfter c = Dark c
 state_by Kill c = Dead c
 
+-- what a step does to its call: whether the call has its effect, and then the pick of the cut, if one comes
+pub record Outcome : Type 0 where
+  pub acts : Bool
+  pub cut : Option ℕ
+
 -- the outcome of a call by a verb: goes on, cut before its effect, cut after it, stopped before it
 abbrev pub outcome_by : Verb → ℕ → Outcome
 outcome_by Go pick = record { acts = true; cut = None }
@@ -22,9 +26,10 @@ outcome_by CutBefore pick = record { acts = false; cut = Some pick }
 outcome_by CutAfter pick = record { acts = true; cut = Some pick }
 outcome_by Kill pick = record { acts = false; cut = None }
 
--- the call goes on to its end: it has its effect, and no cut comes
-abbrev pub is_done : Outcome → Bool
-is_done o = o.acts && not (is_some o.cut)
+-- the outcome of a call that takes this step, or none
+abbrev pub outcome_of : Option Step → Outcome
+outcome_of None = record { acts = false; cut = None }
+outcome_of (Some s) = outcome_by s.verb s.pick
 
 -- the step that a read, a write or a barrier takes of the words, and the words left: only a disk that is on takes one
 abbrev pub step_for : StateValues → List ℕ → Step × List ℕ

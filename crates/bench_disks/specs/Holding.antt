@@ -9,7 +9,6 @@ use Rattle.disks.proofs.Blocks.{blocks_apart}
 use Rattle.bench_disks.specs.declared.waiting.WaitingWrite.{WaitingWrite}
 use Rattle.bench_disks.specs.Waiting.{Held, size_of, stand, chosen, newest, Waits, face_of, Candidate, put, oldest_stands, room, queue, flush, cut}
 use Rattle.bench_disks.specs.Views.{WholeWrites, SoundHeld}
-use Rattle.bench_disks.specs.Standing.{newest_push}
 
 -- bytes stay bytes
 abbrev Bytes : List ℕ → Type 0
@@ -65,6 +64,11 @@ stand_block [] m k h = refl
 stand_block (w ∷ ws) m k h =
     let e = size_with m w.block w.content h.0 h.1 in
     stand_block ws (with_block m w.block w.content) k (subst (λ (n : ℕ). WholeWrites n ws) (sym e) h.2) ∙ ap (newest ws k) (block_with m w.block w.content k h.0 h.1)
+
+-- one write more, the newest
+newest_push : (ws : List WaitingWrite) (w : WaitingWrite) (k : ℕ) (b : Content) → newest (ws ++ w ∷ []) k b ≡ cond (w.block == k) w.content (newest ws k b)
+newest_push [] w k b = refl
+newest_push (x ∷ ws) w k b = newest_push ws w k (cond (x.block == k) x.content b)
 
 -- the newest of some writes is one of them, or there is none
 newest_waits : (ws : List WaitingWrite) (k : ℕ) (b : Content) → (newest ws k b ≡ b) ⊎ Waits ws k (newest ws k b)

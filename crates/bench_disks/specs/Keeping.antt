@@ -4,7 +4,7 @@ use Rattle.std.proofs.Math.Path.{refl}
 use Rattle.std.proofs.Common.{sym, ap, subst, ◌∙◌, inl, inr, arith}
 use Rattle.std.proofs.lemmas.Bool.{ltb-true, ltb-false, cases_eq}
 use Rattle.disks.specs.Values.{CauseValues, StateValues, On, Dark, Dead, PastEnd, Answer, answer_by}
-use Rattle.disks.specs.Meaning.{Content, Shown, Whole, CauseFits, StateFits, Proper, Off, Living, Kept, Unchanged, NoneGained, AtBlock, ReadOn, WriteOn, RestartOn, ReadMeans, WriteMeans, BarrierMeans, RestartMeans}
+use Rattle.disks.specs.Meaning.{Content, Shown, Whole, CauseFits, StateFits, Proper, Off, Kept, Unchanged, NoneGained, AtBlock, ReadOn, WriteOn, RestartOn, ReadMeans, WriteMeans, BarrierMeans, RestartMeans}
 use Rattle.disks.specs.Blocks.{block_of}
 use Rattle.disks.proofs.Blocks.{block_whole}
 use Rattle.disks.proofs.Views.{same}
@@ -57,24 +57,18 @@ only : (h : Held) (k : ℕ) (b : Content) → h.waiting ≡ [] → Candidate h k
 only h k b e (inl f) = f ∙ sym (ap (λ (ws : List WaitingWrite). newest ws k (block_of h.memory k)) e)
 only h k b e (inr x) = absurd (subst (λ (ws : List WaitingWrite). Waits ws k b) e x)
 
-not_dark : {P : Type 0} (c : CauseValues) → On ≡ Dark c → P
-not_dark c e = absurd (let z : ◌≡◌ {A = ℕ} 0 1 = cc in omega arith)
-
-dead_not_dark : {P : Type 0} (b c : CauseValues) → Dead b ≡ Dark c → P
-dead_not_dark b c e = absurd (let z : ◌≡◌ {A = ℕ} 0 1 = cc in omega arith)
-
 -- a read, a write or a barrier, by its effect f
 module _ (c : CauseValues) (f : Held → Held) (Gain : ℕ → Content → Type 0) (fits : CauseFits 0 c) where
   by_verb : (v : Verb) (pick : ℕ) (us ws : List ℕ) (h : Held) → SoundHeld h → Goes h Gain (f h) →
       After (record { state = On; words = us; held = h }) Gain (record { state = state_by v c; words = ws; held = take_outcome (outcome_by v pick) f h })
-  by_verb Go pick us ws h snd g = record { goes = g; cause = tt; dark = λ b e. not_dark b e }
+  by_verb Go pick us ws h snd g = record { goes = g; cause = tt; dark = λ b e. cc }
   by_verb CutBefore pick us ws h snd g = record { goes = cut_goes h snd Gain pick; cause = fits; dark = λ b e. refl }
   by_verb CutAfter pick us ws h snd g = record {
     goes = goes_then h (f h) _ Gain g (cut_goes (f h) g.sound Nothing pick);
     cause = fits;
     dark = λ b e. refl;
   }
-  by_verb Kill pick us ws h snd g = record { goes = stays h Gain snd; cause = fits; dark = λ b e. dead_not_dark c b e }
+  by_verb Kill pick us ws h snd g = record { goes = stays h Gain snd; cause = fits; dark = λ b e. cc }
 
   by_state : (s : StateValues) (ws : List ℕ) (h : Held) → Sound (record { state = s; words = ws; held = h }) → Goes h Gain (f h) →
       After (record { state = s; words = ws; held = h }) Gain (called c f (record { state = s; words = ws; held = h }))
@@ -89,16 +83,16 @@ module _ (c : CauseValues) (f : Held → Held) (Gain : ℕ → Content → Type 
 module _ (c : CauseValues) (f : Held → Held) where
   done_by_verb : (v : Verb) (pick : ℕ) (h : Held) → state_by v c ≡ On → take_outcome (outcome_by v pick) f h ≡ f h
   done_by_verb Go pick h e = refl
-  done_by_verb CutBefore pick h e = not_dark c (sym e)
-  done_by_verb CutAfter pick h e = not_dark c (sym e)
-  done_by_verb Kill pick h e = absurd (let z : ◌≡◌ {A = ℕ} 0 1 = cc in omega arith)
+  done_by_verb CutBefore pick h e = cc
+  done_by_verb CutAfter pick h e = cc
+  done_by_verb Kill pick h e = cc
 
   done_by_state : (s : StateValues) (ws : List ℕ) (h : Held) → (called c f (record { state = s; words = ws; held = h })).state ≡ On → (called c f (record { state = s; words = ws; held = h })).held ≡ f h
   done_by_state On ws h e = done_by_verb (step_from ws).0.verb (step_from ws).0.pick h e
-  done_by_state (Dark b) ws h e = not_dark b (sym e)
-  done_by_state (Dead b) ws h e = absurd (let z : ◌≡◌ {A = ℕ} 0 1 = cc in omega arith)
+  done_by_state (Dark b) ws h e = cc
+  done_by_state (Dead b) ws h e = cc
 
-  done : (d : Bench) → (called c f d).state ≡ On → (called c f d).held ≡ f d.held
+  pub done : (d : Bench) → (called c f d).state ≡ On → (called c f d).held ≡ f d.held
   done d e = done_by_state d.state d.words d.held e
 
   -- a disk that is off stays as it is
@@ -207,7 +201,7 @@ bench_barriers d snd = (
 -- a restart, by state and verb
 restart_verb : (v : Verb) (us ws : List ℕ) (s : StateValues) (h g : Held) → Goes h Nothing g → g.waiting ≡ [] →
     After (record { state = s; words = us; held = h }) Nothing (record { state = state_by v (cause_at 4 0); words = ws; held = g })
-restart_verb Go us ws s h g p e = record { goes = p; cause = tt; dark = λ b f. not_dark b f }
+restart_verb Go us ws s h g p e = record { goes = p; cause = tt; dark = λ b f. cc }
 restart_verb CutBefore us ws s h g p e = record { goes = p; cause = whole_cause 4 (omega arith); dark = λ b f. e }
 restart_verb CutAfter us ws s h g p e = record { goes = p; cause = whole_cause 4 (omega arith); dark = λ b f. e }
 restart_verb Kill us ws s h g p e = record { goes = p; cause = whole_cause 4 (omega arith); dark = λ b f. e }
@@ -224,11 +218,6 @@ restarted v us ws s h g p e pick =
       gained = none_gained _ _ a;
     }
 
-living : {P : Type 0} (s : StateValues) (c : CauseValues) → Living s → s ≡ Dead c → P
-living On c l e = absurd (let z : ◌≡◌ {A = ℕ} 0 1 = cc in omega arith)
-living (Dark b) c l e = absurd (let z : ◌≡◌ {A = ℕ} 0 1 = cc in omega arith)
-living (Dead b) c l e = absurd l
-
 after_restart_by : (s : StateValues) (ws : List ℕ) (h : Held) → Sound (record { state = s; words = ws; held = h }) →
     After (record { state = s; words = ws; held = h }) Nothing (restarts (record { state = s; words = ws; held = h })).1
 after_restart_by On ws h snd = restart_verb (step_from ws).0.verb ws (step_from ws).1 On h _ (cut_goes h snd.held Nothing (step_from ws).0.pick) refl
@@ -241,11 +230,11 @@ after_restart d snd = after_restart_by d.state d.words d.held snd
 restart_means : (s : StateValues) (ws : List ℕ) (h : Held) → Sound (record { state = s; words = ws; held = h }) →
     RestartMeans (view_of (record { state = s; words = ws; held = h })) (restarts (record { state = s; words = ws; held = h })).0 (view_of (restarts (record { state = s; words = ws; held = h })).1)
 restart_means On ws h snd = record {
-  dead = λ c e. living On c tt e;
+  dead = λ c e. cc;
   living = λ _. restarted (step_from ws).0.verb ws (step_from ws).1 On h _ (cut_goes h snd.held Nothing (step_from ws).0.pick) refl (λ k. cut_picks h snd.held (step_from ws).0.pick k);
 }
 restart_means (Dark b) ws h snd = record {
-  dead = λ c f. living (Dark b) c tt f;
+  dead = λ c f. cc;
   living = λ _. restarted (step_from ws).0.verb ws (step_from ws).1 (Dark b) h h (stays h Nothing snd.held) (snd.dark b refl) (λ k. face_stands h k);
 }
 restart_means (Dead b) ws h snd = record {

@@ -7,4 +7,4 @@ pub mod Laws
 pub mod Disks
 pub mod Keeping
 pub mod Holding
-pub mod Standing
+pub mod Instances

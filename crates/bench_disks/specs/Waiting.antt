@@ -1,5 +1,5 @@
 -- What a bench disk holds: blocks that stand, and writes that wait.
-use Rattle.std.specs.Prelude.{◌≡◌, ℕ, suc, ◌/◌, ◌%◌, ◌^◌, Bool, true, cond, ◌&&◌, ◌⊎◌, List, [], ◌∷◌, ◌++◌, length, ◌==◌, nat_lt}
+use Rattle.std.specs.Prelude.{◌≡◌, ℕ, suc, ◌/◌, ◌%◌, ◌^◌, cond, ◌⊎◌, List, [], ◌∷◌, ◌++◌, length, ◌==◌, nat_lt}
 use Rattle.disks.specs.Meaning.{Content}
 use Rattle.disks.specs.Blocks.{whole_blocks, block_of, with_block}
 use Rattle.bench_disks.specs.declared.waiting.WaitingWrite.{WaitingWrite}
@@ -11,11 +11,6 @@ pub record Held : Type 0 where
 
 abbrev pub size_of : Held → ℕ
 size_of h = whole_blocks h.memory
-
--- each write is to a block below n
-abbrev pub inside : ℕ → List WaitingWrite → Bool
-inside n [] = true
-inside n (w ∷ ws) = nat_lt w.block n && inside n ws
 
 -- the memory after the writes stood, oldest first
 abbrev pub stand : List WaitingWrite → List ℕ → List ℕ

@@ -2,7 +2,7 @@
 ghost use Rattle.std.specs.Prelude.{◌≡◌};
 ghost use Rattle.disks.specs.Values.{On, cause_values, state_values};
 ghost use Rattle.bench.specs.Schedules.{words_left};
-ghost use Rattle.bench_disks.specs.Faults.{state_by, is_done, step_for, meets, step_at_restart, restart_outcome};
+ghost use Rattle.bench_disks.specs.Faults.{state_by, outcome_of, step_for, meets, step_at_restart, restart_outcome};
 
 use bench::schedule::{Schedule, Step, Verb};
 use disks::cause::{Call, Cause};
@@ -12,24 +12,6 @@ use disks::state::State;
 pub struct Faults {
     state: State,
     schedule: Schedule,
-}
-
-// What a step does to its call.
-#[derive(Clone, Copy)]
-pub struct Outcome {
-    // The call has its effect.
-    pub acts: bool,
-    // Then the power is cut, with this pick.
-    pub cut: Option<u16>,
-}
-
-impl Outcome {
-    // The call goes on to its end.
-    pub(crate) fn is_done(self) -> bool
-        ensures { result ≡ is_done self }
-    {
-        self.acts && self.cut.is_none()
-    }
 }
 
 // The state that a verb leaves a living disk in.
@@ -61,45 +43,16 @@ impl Faults {
     }
 
     // The step of a read, a write or a barrier, which a disk takes only if it is on.
-    pub(crate) fn meet(&mut self, cause: Cause) -> Outcome
-        ensures outcome { (result, state_values self.new.state) ≡ meets (state_values self.old.state) (step_for (state_values self.old.state) (words_left self.old.schedule)).0 (cause_values cause) }
+    pub(crate) fn meet(&mut self, cause: Cause) -> Option<Step>
+        ensures outcome { (outcome_of result, state_values self.new.state) ≡ meets (state_values self.old.state) (step_for (state_values self.old.state) (words_left self.old.schedule)).0 (cause_values cause) }
         ensures words { words_left self.new.schedule ≡ (step_for (state_values self.old.state) (words_left self.old.schedule)).1 }
     {
-        let step = match self.state {
-            State::On => self.schedule.next_step(),
-            State::Dark(_) | State::Dead(_) => Step::EMPTY,
+        let State::On = self.state else {
+            return None;
         };
-        match (self.state, step.verb) {
-            (State::On, Verb::Go) => Outcome {
-                acts: true,
-                cut: None,
-            },
-            (State::On, Verb::CutBefore) => {
-                self.state = State::Dark(cause);
-                Outcome {
-                    acts: false,
-                    cut: Some(step.pick),
-                }
-            }
-            (State::On, Verb::CutAfter) => {
-                self.state = State::Dark(cause);
-                Outcome {
-                    acts: true,
-                    cut: Some(step.pick),
-                }
-            }
-            (State::On, Verb::Kill) => {
-                self.state = State::Dead(cause);
-                Outcome {
-                    acts: false,
-                    cut: None,
-                }
-            }
-            (State::Dark(_) | State::Dead(_), _) => Outcome {
-                acts: false,
-                cut: None,
-            },
-        }
+        let step = self.schedule.next_step();
+        self.state = state_after(step.verb, cause);
+        Some(step)
     }
 
     // The step of a restart, which a disk takes if it is on or dark. One that is on is cut first, with the pick that is given back.
@@ -107,20 +60,15 @@ impl Faults {
         ensures cut { (result, state_values self.new.state) ≡ restart_outcome (state_values self.old.state) (step_at_restart (state_values self.old.state) (words_left self.old.schedule)).0 }
         ensures words { words_left self.new.schedule ≡ (step_at_restart (state_values self.old.state) (words_left self.old.schedule)).1 }
     {
-        let step = match self.state {
-            State::On | State::Dark(_) => self.schedule.next_step(),
-            State::Dead(_) => Step::EMPTY,
-        };
-        match (self.state, step.verb) {
-            (State::On, verb) => {
-                self.state = state_after(verb, Cause::at(Call::Restart));
-                Some(step.pick)
-            }
-            (State::Dark(_), verb) => {
-                self.state = state_after(verb, Cause::at(Call::Restart));
-                None
-            }
-            (State::Dead(_), _) => None,
+        if let State::Dead(_) = self.state {
+            return None;
         }
+        let step = self.schedule.next_step();
+        let cut = match self.state {
+            State::On => Some(step.pick),
+            State::Dark(_) | State::Dead(_) => None,
+        };
+        self.state = state_after(step.verb, Cause::at(Call::Restart));
+        cut
     }
 }

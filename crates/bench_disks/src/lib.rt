@@ -3,7 +3,9 @@
 
 pub mod buffered;
 mod cache;
+pub mod disk;
 mod faults;
+mod holding;
 mod memory;
 pub mod plain;
 mod waiting;

@@ -1,7 +1,10 @@
-// The memory of a bench disk: bytes in a row, taken as blocks.
-ghost use Rattle.std.specs.Prelude.{◌≡◌, ℕ, ◌<◌, length, slice_index};
-ghost use Rattle.disks.specs.Blocks.{whole_blocks, block_of, with_block};
+// The memory of a bench disk: bytes in a row, taken as blocks. A write to it stands at once.
+ghost use Rattle.std.specs.Prelude.{◌≡◌, ℕ, ◌<◌, slice_index};
+ghost use Rattle.bench_disks.specs.Waiting.{put};
+ghost use Rattle.bench_disks.specs.Caches.{memory_held};
+ghost use Rattle.bench_disks.specs.Holding.{put_wrote};
 
+use crate::holding::Holding;
 use disks::block::{Block, count_blocks, get_block, put_block};
 use disks::image::Image;
 
@@ -19,32 +22,34 @@ impl Memory {
         let _image = Image::new(&bytes);
         Memory { bytes }
     }
+}
 
-    pub(crate) fn into_bytes(self) -> Vec<u8>
-        ensures { result.items ≡ self.bytes.items }
-    {
-        let Memory { bytes } = self;
-        bytes
-    }
+impl Holding for Memory {
+    ghost held = { memory_held };
 
-    pub(crate) fn size(&self) -> u16
-        ensures { result ≡ whole_blocks self.now.bytes.items }
-    {
+    ghost effect = { put };
+
+    ghost wrote = { λ s k b snd lt whole. put_wrote _ k b snd lt whole };
+
+    fn size(&self) -> u16 {
         count_blocks(&self.bytes)
     }
 
-    pub(crate) fn get(&self, block: u16, place: &mut Block)
-        requires { block < whole_blocks self.now.bytes.items }
-        ensures { place.new ≡ block_of self.now.bytes.items block }
-    {
+    fn face(&self, block: u16, place: &mut Block) {
         get_block(&self.bytes, block, place);
     }
 
-    pub(crate) fn put(&mut self, block: u16, content: &Block)
-        requires { block < whole_blocks self.old.bytes.items }
-        ensures after { self.new.bytes.items ≡ with_block self.old.bytes.items block content.now }
-        ensures len { length self.new.bytes.items ≡ length self.old.bytes.items }
-    {
+    fn write(&mut self, block: u16, content: &Block) {
         put_block(&mut self.bytes, block, content);
+    }
+
+    // Nothing ever waits.
+    fn flush(&mut self) {}
+
+    fn cut(&mut self, _pick: u16) {}
+
+    fn into_memory(self) -> Vec<u8> {
+        let Memory { bytes } = self;
+        bytes
     }
 }

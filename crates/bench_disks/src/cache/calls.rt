@@ -1,82 +1,102 @@
 // Reading, writing and cutting what a buffered disk holds.
-ghost use Rattle.std.specs.Prelude.{◌≡◌, ◌<◌, ◌≤◌, [], vec_len, vec_capacity};
-ghost use Rattle.bench_disks.specs.Waiting.{face_of, size_of, room, queue as queued, cut as cut_by, flush as flushed};
-ghost use Rattle.bench_disks.specs.Caches.{held};
+ghost use Rattle.std.specs.Prelude.{◌≡◌, ℕ, ◌<◌, [], MatchResult, slice_index};
+ghost use Rattle.std.specs.Option.{option_map_or};
+ghost use Rattle.std.specs.VecDeque.{deque_len};
+ghost use Rattle.disks.specs.Meaning.{Content};
+ghost use Rattle.bench_disks.specs.Waiting.{newest as newest_of, size_of, room, queue as queued};
+ghost use Rattle.bench_disks.specs.Caches.{held as held_of};
+ghost use Rattle.bench_disks.specs.Holding.{queue_wrote};
 
 use super::Cache;
+use crate::holding::Holding;
 use crate::memory::Memory;
-use crate::waiting::{WaitingWrite, get_newest, stand, stand_chosen};
+use crate::waiting::WaitingWrite;
 use disks::block::Block;
+use std::alloc::Global;
+use std::collections::VecDeque;
 
 impl Cache {
-    // Over a memory, with the room for what will wait.
-    pub(crate) fn new(memory: Memory, waiting: Vec<WaitingWrite>) -> Cache
-        requires { (waiting.items ≡ []) × (vec_len waiting ≡ 0) × (16 ≤ vec_capacity waiting) }
-        ensures { held result ≡ record { waiting = []; memory = memory.bytes.items } }
+    // Over a memory, which is given back if there is no room for 16 waiting writes.
+    pub(crate) fn new(heap: Global, memory: Vec<u8>) -> Result<Cache, Vec<u8>>
+        ensures { MatchResult result (λ c. (held_of c ≡ record { waiting = []; memory = memory.items }) × ((j : ℕ) → slice_index memory.items j < 256)) (λ m. m ≡ memory) }
     {
-        Cache { memory, waiting }
-    }
-
-    pub(crate) fn into_memory(self) -> Memory
-        ensures { result ≡ self.memory }
-    {
-        let Cache { memory, waiting: _ } = self;
-        memory
-    }
-
-    pub(crate) fn size(&self) -> u16
-        ensures { result ≡ size_of (held self.now) }
-    {
-        self.memory.size()
-    }
-
-    pub(crate) fn face(&self, block: u16, place: &mut Block)
-        requires { block < size_of (held self.now) }
-        ensures { place.new ≡ face_of (held self.now) block }
-    {
-        if !get_newest(&self.waiting, block, place) {
-            self.memory.get(block, place);
+        match VecDeque::with_capacity(heap, 16) {
+            Ok(waiting) => Ok(Cache {
+                memory: Memory::new(memory),
+                waiting,
+            }),
+            Err(_) => Err(memory),
         }
+    }
+
+    // The newest of the waiting writes to the block.
+    fn newest(&self, block: u16) -> Option<&WaitingWrite>
+        ensures { (standing : Content) → newest_of self.now.waiting.items block standing ≡ option_map_or (λ w. w.now.content) result standing }
+    {
+        self.waiting.iter().rev().find(|write| write.block == block)
     }
 
     // If 16 wait, the oldest stands.
     fn make_room(&mut self)
-        ensures after { held self.new ≡ room (held self.old) }
-        ensures few { vec_len self.new.waiting < 16 }
-        ensures size { size_of (held self.new) ≡ size_of (held self.old) }
+        ensures after { held_of self.new ≡ room (held_of self.old) }
+        ensures few { deque_len self.new.waiting < 16 }
+        ensures size { size_of (held_of self.new) ≡ size_of (held_of self.old) }
     {
         if self.waiting.len() < 16 {
             return;
         }
-        let oldest = self.waiting.remove(0);
-        self.memory.put(oldest.block, &oldest.content);
+        if let Some(oldest) = self.waiting.pop_front() {
+            self.memory.write(oldest.block, &oldest.content);
+        }
+    }
+}
+
+impl Holding for Cache {
+    ghost held = { held_of };
+
+    ghost effect = { queued };
+
+    ghost wrote = { λ s k b snd lt whole. queue_wrote _ k b snd lt whole };
+
+    fn size(&self) -> u16 {
+        self.memory.size()
     }
 
-    // One write more waits.
-    pub(crate) fn queue(&mut self, block: u16, content: &Block)
-        requires { block < size_of (held self.old) }
-        ensures { held self.new ≡ queued block content.now (held self.old) }
-    {
+    fn face(&self, block: u16, place: &mut Block) {
+        match self.newest(block) {
+            Some(write) => *place = write.content,
+            None => self.memory.face(block, place),
+        }
+    }
+
+    // It waits.
+    fn write(&mut self, block: u16, content: &Block) {
         self.make_room();
-        self.waiting.push_reserved(WaitingWrite {
+        let write = WaitingWrite {
             block,
             content: *content,
-        });
+        };
+        self.waiting.push_back_reserved(write);
     }
 
-    // All that waits stands.
-    pub(crate) fn flush(&mut self)
-        ensures { held self.new ≡ flushed (held self.old) }
-    {
-        stand(&mut self.memory, &self.waiting);
-        self.waiting.clear();
+    // As a cut that picks all, since at most 16 wait.
+    fn flush(&mut self) {
+        self.cut(u16::MAX);
     }
 
-    // What waits stands by the pick, or vanishes.
-    pub(crate) fn cut(&mut self, pick: u16)
-        ensures { held self.new ≡ cut_by pick (held self.old) }
-    {
-        stand_chosen(&mut self.memory, &self.waiting, pick);
-        self.waiting.clear();
+    // Those stand, oldest first, whose bit of the pick is one: the bit worth 1 is that of the oldest.
+    fn cut(&mut self, pick: u16) {
+        let mut bits = pick;
+        while let Some(write) = self.waiting.pop_front() {
+            if bits % 2 == 1 {
+                self.memory.write(write.block, &write.content);
+            }
+            bits /= 2;
+        }
+    }
+
+    fn into_memory(self) -> Vec<u8> {
+        let Cache { memory, waiting: _ } = self;
+        memory.into_memory()
     }
 }
