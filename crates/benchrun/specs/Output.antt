@@ -2,13 +2,8 @@
 use Rattle.std.specs.Prelude.{◌≡◌, ℕ, zero, suc, ◌*◌, Bool, true, false, List, [], ◌∷◌, ◌++◌, length, replicate, Ok, codes, decimal, MatchBool, Option, MatchOption, nat_lt, slice_index}
 use Rattle.bench_disks.specs.Calls.{Bench, new_bench, reads, writes, barriers, restarts}
 use Rattle.bench_disks.specs.Disks.{plain_bench, buffered_bench}
+use Rattle.bench_disks.specs.Instances.{Plain, Buffered, plain_reader, plain_disk, buffered_reader, buffered_disk}
 use Rattle.bench_disks.specs.Waiting.{Held, put, queue}
-use Rattle.bench_disks.specs.contracts.buffered.BufferedDisk.TheImpl as buffered_disk
-use Rattle.bench_disks.specs.contracts.buffered.BufferedReader.TheImpl as buffered_reader
-use Rattle.bench_disks.specs.contracts.plain.PlainDisk.TheImpl as plain_disk
-use Rattle.bench_disks.specs.contracts.plain.PlainReader.TheImpl as plain_reader
-use Rattle.bench_disks.specs.declared.buffered.Buffered.{Buffered}
-use Rattle.bench_disks.specs.declared.plain.Plain.{Plain}
 use Rattle.disks.specs.Meaning.{Content}
 use Rattle.drive.specs.Runs.{RunsBy}
 use Rattle.pair.specs.Calls.{Reads, Writes, Barriers}
@@ -54,8 +49,8 @@ module _ (effect : ℕ → Content → Held → Held) where
 -- lines that run on a pair of a plain and a buffered disk
 abbrev pub RunsOnPair : List (List ℕ) → Pair Plain Buffered → List ℕ → Bool → Pair Plain Buffered → Type 0
 RunsOnPair =
-    RunsBy (Reads plain_reader.ghosts buffered_reader.ghosts) (Writes plain_reader.ghosts plain_disk.ghosts buffered_reader.ghosts buffered_disk.ghosts)
-    (Barriers plain_reader.ghosts plain_disk.ghosts buffered_reader.ghosts buffered_disk.ghosts) (Restarts plain_reader.ghosts plain_disk.ghosts buffered_reader.ghosts buffered_disk.ghosts)
+    RunsBy (Reads plain_reader buffered_reader) (Writes plain_reader plain_disk buffered_reader buffered_disk)
+    (Barriers plain_reader plain_disk buffered_reader buffered_disk) (Restarts plain_reader plain_disk buffered_reader buffered_disk)
 
 -- lines that run on a new pair of new disks, side 0 plain and side 1 buffered, each with its words, and what they print
 pub record RunsNewPair (words0 words1 : List ℕ) (ls : List (List ℕ)) (text : List ℕ) : Type 0 where
@@ -66,7 +61,7 @@ pub record RunsNewPair (words0 words1 : List ℕ) (ls : List (List ℕ)) (text :
   pub whole : Bool
   pub new0 : plain_bench side0 ≡ new_bench words0 zeros
   pub new1 : buffered_bench side1 ≡ new_bench words1 zeros
-  pub paired : made_of plain_reader.ghosts buffered_reader.ghosts side0 side1 ≡ Ok before
+  pub paired : made_of plain_reader buffered_reader side0 side1 ≡ Ok before
   pub runs : RunsOnPair ls before text whole after
 
 -- the first line, or an empty one where there is none
