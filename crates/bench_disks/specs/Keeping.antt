@@ -6,8 +6,7 @@ use Rattle.std.proofs.lemmas.Bool.{ltb-true, ltb-false, cases_eq}
 use Rattle.disks.specs.Values.{CauseValues, StateValues, On, Dark, Dead, PastEnd, Answer, answer_by}
 use Rattle.disks.specs.Meaning.{Content, Shown, Whole, CauseFits, StateFits, Proper, Off, Kept, Unchanged, NoneGained, AtBlock, ReadOn, WriteOn, RestartOn, ReadMeans, WriteMeans, BarrierMeans, RestartMeans}
 use Rattle.disks.specs.Blocks.{block_of}
-use Rattle.disks.proofs.Blocks.{block_whole}
-use Rattle.disks.proofs.Views.{same}
+use Rattle.disks.specs.ImageLaws.{block_whole, same}
 use Rattle.bench.specs.declared.schedule.Verb.{Verb}
 use Rattle.bench.specs.declared.schedule.Verb.TheVariants.{Go, CutBefore, CutAfter, Kill}
 use Rattle.bench_disks.specs.declared.waiting.WaitingWrite.{WaitingWrite}

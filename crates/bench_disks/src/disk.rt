@@ -61,6 +61,10 @@ impl<H: Holding> Reader for BenchDisk<H> {
 
     ghost reads = { λ s k x t. (x, bench_of H.held t) ≡ reads_of k (bench_of H.held s) };
 
+    ghost proper = { λ s snd. bench_proper (bench_of H.held s) snd };
+
+    ghost reading = { λ s t k x h snd. read_law (bench_of H.held s) (bench_of H.held t) snd k x h };
+
     fn size(&self) -> u16 {
         self.held.size()
     }
@@ -91,10 +95,6 @@ impl<H: Holding> Disk for BenchDisk<H> {
     ghost restarts = { λ s r t. (r, bench_of H.held t) ≡ restarts_of (bench_of H.held s) };
 
     ghost bottoms = { λ d. bottom (bench_of H.held d).state };
-
-    ghost proper = { λ s snd. bench_proper (bench_of H.held s) snd };
-
-    ghost reading = { λ s t k x h snd. read_law (bench_of H.held s) (bench_of H.held t) snd k x h };
 
     ghost writing = { λ s t k b r whole h snd. write_law (bench_of H.held s) (bench_of H.held t) snd H.effect k b r (λ lt. H.wrote s.held k b snd.held lt whole) h };
 
