@@ -2,9 +2,10 @@
 use Rattle.std.proofs.Common.{◌≡◌, ℕ, zero, suc, ◌+◌, ◌-◌, ◌*◌, ◌/◌, ◌%◌, ◌^◌, ◌<◌, ◌≤◌, List, [], ◌∷◌, ◌++◌, length, get_or, replicate, sym, refl, ap, ◌∙◌, add-zero, mul_assoc, add_comm, suc-add, zero-add, mul-suc, arith}
 use native.Mathlib.Nat.{pow-succ', mul-add-div_right}
 use Rattle.std.proofs.lemmas.Nat.{pow_pos, shr-shr, shr_high, shr_split, mod_below}
-use Rattle.std.proofs.lemmas.List.{append_assoc, length-append, length-replicate, replicate-append-replicate, places}
+use Rattle.std.proofs.lemmas.List.{append_assoc, length-append, length-replicate, replicate-append-replicate}
 use Rattle.std.specs.List.{flat_map}
 use Rattle.store.specs.Layout.{HeaderValues, InRange, filled, pairs, front, packed}
+use Rattle.store.proofs.Fields.{filled_small}
 use Rattle.store.specs.Bits.{spelled, bits, layout_bits}
 
 -- the lowest bits do not change with what stands above them
@@ -60,13 +61,10 @@ pub packed_bits : (h : HeaderValues) → InRange h → bits (packed h) ≡ layou
 unfolding packed
 packed_bits h r =
     front_bits h.n (length h.log) (pairs (filled h.log) ++ replicate 459 0) r.most
-    ∙ rw (pairs_bits (filled h.log) (replicate 459 0) even below, zero_bits 459)
+    ∙ rw (pairs_bits (filled h.log) (replicate 459 0) even (filled_small h r), zero_bits 459)
   where
     even : length (filled h.log) % 2 ≡ 0
     even = simp (length-append, length-replicate) (omega arith)
-
-    below : (i : ℕ) → get_or (filled h.log) i 0 < 4096
-    below i = grind (arith, places, r.below i)
 
 -- the first eight bits tell the first byte
 byte_from : (b c : ℕ) (bs cs : List ℕ) → b < 256 → c < 256 → spelled 8 b ++ bs ≡ spelled 8 c ++ cs → (b ≡ c) × (bs ≡ cs)

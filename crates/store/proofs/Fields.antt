@@ -1,8 +1,11 @@
 -- Fields of 12 bits in bytes, there and back, and a log filled up to 32 of them.
-use Rattle.std.proofs.Common.{◌≡◌, ℕ, ◌+◌, ◌-◌, ◌*◌, ◌/◌, ◌%◌, ◌<◌, ◌≤◌, List, [], ◌∷◌, length, get_or, take, drop, replicate, sym, refl, ◌∙◌, arith}
+use Rattle.std.proofs.Common.{◌≡◌, ℕ, zero, suc, ◌+◌, ◌-◌, ◌*◌, ◌/◌, ◌%◌, ◌<◌, ◌≤◌, true, eqb, ltb, List, [], ◌∷◌, length, get_or, take, drop, replicate, Decides, refl, ap, ◌∙◌, arith}
 use Rattle.std.specs.List.{AllByRecursion}
-use Rattle.std.proofs.lemmas.List.{ext_get_or, length-replicate, length-take-le, length-drop, get_or-replicate, get_or-take, get_or-drop, take-append-drop}
-use Rattle.store.specs.Layout.{InRange, filled, pairs, fields}
+use Rattle.std.proofs.ByRecursion.{All-get_or, All-from_get_or, Decides-by_and}
+use Rattle.std.proofs.lemmas.Bool.{and_parts, eqb-true}
+use Rattle.std.proofs.lemmas.Bool.Decides.{Decides-like, Decides-ltb}
+use Rattle.std.proofs.lemmas.List.{places, drop_more, length-append, length-replicate, length-take, length-drop, take-append-drop}
+use Rattle.store.specs.Layout.{HeaderValues, InRange, filled, pairs, fields, all_zero, all_below}
 
 pub length_pairs : (m : ℕ) (xs : List ℕ) → length xs ≡ 2 * m → length (pairs xs) ≡ 3 * m
 unfolding pairs
@@ -43,28 +46,43 @@ pairs_bytes [] h = tt
 pairs_bytes (a ∷ []) h = tt
 pairs_bytes (a ∷ b ∷ xs) h = (omega arith, (omega arith, (omega arith, pairs_bytes xs h.1.1)))
 
-pub zeros : (ys : List ℕ) → ((i : ℕ) → i < length ys → get_or ys i 0 ≡ 0) → ys ≡ replicate (length ys) 0
-zeros ys z = ext_get_or 0 ys (replicate (length ys) 0) (sym (length-replicate (length ys) 0)) (λ i h. z i h ∙ sym (get_or-replicate (length ys) i 0 0 h))
+-- what stands at m places from i on
+abbrev pub run : ℕ → ℕ → List ℕ → List ℕ
+run zero i xs = []
+run (suc m) i xs = get_or xs i 0 ∷ run m (i + 1) xs
 
--- the first count of 32 fields as a log
-module _ (count : ℕ) (xs : List ℕ) (e : length xs ≡ 32) (few : count ≤ 32) where
-  pub length_log : length (take count xs) ≡ count
-  length_log = length-take-le count xs (omega arith)
+pub run_is : (m i : ℕ) (xs : List ℕ) → i + m ≤ length xs → take m (drop i xs) ≡ run m i xs
+run_is zero i xs h = refl
+run_is (suc m) i xs h = ap (take (suc m)) (drop_more xs i 0 (omega arith)) ∙ ap (λ (ys : List ℕ). get_or xs i 0 ∷ ys) (run_is m (i + 1) xs (omega arith))
 
-  pub log_in_range : (n : ℕ) → 1 ≤ n → n ≤ 4096 → ((i : ℕ) → i < count → get_or xs i 0 < n) → InRange (record { n = n; log = take count xs })
-  log_in_range n some most named =
-      let len = length_log in
-      record {
-        some = some;
-        most = most;
-        few = omega arith;
-        below = λ i l. let lt : i < count = omega arith in rw get_or-take (named i lt);
-      }
+-- a test of each number, by place
+pub below_tells : (n : ℕ) (xs : List ℕ) → Decides (all_below n xs) ((i : ℕ) → i < length xs → get_or xs i 0 < n)
+below_tells n xs =
+    let P : ℕ → Type 0 = λ x. x < n in
+    Decides-like _ (λ all i h. All-get_or P xs i 0 h all) (All-from_get_or P xs 0) (Decides-by_and (λ x. ltb x n) P (all_below n) (λ x. Decides-ltb x n) refl (λ _ _. refl) xs)
 
-  -- filled up, if the others are zero
-  pub filled_log : ((i : ℕ) → count ≤ i → get_or xs i 0 ≡ 0) → filled (take count xs) ≡ xs
-  filled_log blank =
-      let long = length-drop count xs in
-      let rest = zeros (drop count xs) (λ i l. get_or-drop count xs i 0 ∙ blank (count + i) (omega arith)) in
-      let size : 32 - length (take count xs) ≡ length (drop count xs) = omega (arith, length_log) in
-      cc (take-append-drop count xs)
+pub zeros : (xs : List ℕ) → all_zero xs ≡ true → xs ≡ replicate (length xs) 0
+zeros [] e = refl
+zeros (x ∷ xs) e =
+    let t = and_parts (eqb x 0) (all_zero xs) e in
+    cc (eqb-true x 0 t.0, zeros xs t.1)
+
+pub zero_replicate : (n : ℕ) → all_zero (replicate n 0) ≡ true
+zero_replicate zero = refl
+zero_replicate (suc n) = zero_replicate n
+
+-- fields of which the first count are a log, and the others zero, are that log filled up
+pub filled_log : (count : ℕ) (xs : List ℕ) → length xs ≡ 32 → count ≤ 32 → all_zero (drop count xs) ≡ true → xs ≡ filled (take count xs)
+filled_log count xs e few z =
+    let rest = zeros (drop count xs) z in
+    let size : length (drop count xs) ≡ 32 - length (take count xs) = simp (length-drop, length-take) (omega arith) in
+    cc (take-append-drop count xs)
+
+pub filled_long : (log : List ℕ) → length log ≤ 32 → length (filled log) ≡ 32
+filled_long log few = simp (length-append, length-replicate) (omega arith)
+
+-- the fields of a header in its ranges
+pub filled_small : (h : HeaderValues) → InRange h → (i : ℕ) → get_or (filled h.log) i 0 < 4096
+filled_small h k i =
+    let most = k.most in
+    grind (arith, places, k.below i)

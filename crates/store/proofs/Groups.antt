@@ -1,83 +1,82 @@
--- The loops of pack and read_fields, which go on by two fields and three bytes a turn.
-use Rattle.std.proofs.Common.{◌≡◌, ℕ, zero, suc, ◌+◌, ◌-◌, ◌*◌, ◌/◌, ◌%◌, ◌<◌, ◌≤◌, List, [], ◌∷◌, ◌++◌, length, get_or, take, drop, set, replicate, refl, ap, ◌∙◌, arith, take-add}
-use lib.Seq.{drop-append-add}
-use Rattle.std.proofs.lemmas.List.Edits.{sets, sets-eq}
-use Rattle.std.proofs.lemmas.List.{append_assoc, take_at, drop_more, drop-drop, drop-replicate, length-append, length-replicate, length-take-le, length-drop}
-use Rattle.store.proofs.Fields.{length_pairs, length_fields}
-use Rattle.store.specs.Layout.{front, pairs, fields}
+-- The loops of pack and read_fields, which put what a group of fields or bytes gives behind what stands there.
+use Rattle.std.proofs.Common.{◌≡◌, ℕ, zero, suc, ◌+◌, ◌-◌, ◌*◌, ◌/◌, ◌%◌, ◌<◌, ◌≤◌, List, [], ◌∷◌, ◌++◌, length, get_or, take, drop, replicate, refl, inl, inr, ap, arith}
+use borrow.Rule.Slice.PartMut.{put_mid}
+use Rattle.std.specs.List.{flat_map}
+use Rattle.std.specs.Int.{w16, to_be_bytes, from_be_bytes}
+use Rattle.std.specs.Simd.{first_chunks}
+use Rattle.std.proofs.lemmas.List.{append_assoc, take_at, drop_at, take_more, flat_map_more, get_or-take, get_or-drop, get_or_past, drop-replicate, length-append, length-replicate, length-take, take_all}
+use Rattle.std.proofs.lemmas.Bool.{cases_lt}
+use Rattle.store.specs.Layout.{pairs, fields}
 
--- what stands at m places from i on
-abbrev pub run : ℕ → ℕ → List ℕ → List ℕ
-run zero i xs = []
-run (suc m) i xs = get_or xs i 0 ∷ run m (i + 1) xs
+-- what the first g groups give, behind the head, and zeros behind it
+abbrev pub filling : {X : Type 0} → (X → List ℕ) → List ℕ → List X → ℕ → ℕ → List ℕ
+filling f head xs g left = (head ++ flat_map f (take g xs)) ++ replicate left 0
 
-pub run_is : (m i : ℕ) (xs : List ℕ) → i + m ≤ length xs → take m (drop i xs) ≡ run m i xs
-run_is zero i xs h = refl
-run_is (suc m) i xs h = ap (take (suc m)) (drop_more xs i 0 (omega arith)) ∙ ap (λ (ys : List ℕ). get_or xs i 0 ∷ ys) (run_is m (i + 1) xs (omega arith))
-
--- numbers written over the first of the zeros behind p
-write_on : (p vs : List ℕ) (i n : ℕ) → length p ≡ i → length vs ≤ n → sets (p ++ replicate n 0) i vs ≡ p ++ (vs ++ replicate (n - length vs) 0)
-write_on p vs i n e h =
-    let written = sets-eq vs (p ++ replicate n 0) i (simp (length-append, length-replicate) (omega arith)) in
+-- what the next group gives, written over the first k zeros
+pub fill_more : {X : Type 0} (f : X → List ℕ) (head : List ℕ) (xs : List X) (d : X) (g i k n m : ℕ) (ys out : List ℕ) → out ≡ filling f head xs g n → g < length xs →
+    ys ≡ f (get_or xs g d) → length ys ≡ k → length out ≡ i + n → m + k ≡ n → put_mid i k out ys ≡ filling f head xs (g + 1) m
+fill_more f head xs d g i k n m ys out was lt gives long room left =
+    let p : List ℕ = head ++ flat_map f (take g xs) in
+    let e : length p ≡ i = omega (arith, simp (length-append p (replicate n 0), length-replicate) at (ap (λ (zs : List ℕ). length zs) was)) in
     let before = take_at p (replicate n 0) i e in
-    let behind = drop-append-add p (replicate n 0) (length vs) in
-    let left = drop-replicate {X = ℕ} (length vs) n 0 in
-    let join = append_assoc p vs (replicate (n - length vs) 0) in
+    let behind = drop_at p (replicate n 0) i e in
+    let rest = drop-replicate {X = ℕ} k n 0 in
+    let less : n - k ≡ m = omega arith in
+    let more = take_more xs g d lt in
+    let given = flat_map_more f head (take g xs) (get_or xs g d) in
+    let join = append_assoc p ys (replicate m 0) in
     cc
 
-pairs_append : (m : ℕ) (xs ys : List ℕ) → length xs ≡ 2 * m → pairs (xs ++ ys) ≡ pairs xs ++ pairs ys
+-- two fields by the bytes of the numbers, and the numbers by three bytes
+pub pair_is : (xs high low : List ℕ) → length xs ≡ 2 → ((i : ℕ) → get_or xs i 0 < 4096) → high ≡ to_be_bytes w16 (get_or xs 0 0 * 16) → low ≡ to_be_bytes w16 (get_or xs 1 0) →
+    (get_or high 0 0 ∷ (get_or high 1 0 + get_or low 0 0) ∷ get_or low 1 0 ∷ []) ≡ pairs xs
 unfolding pairs
-pairs_append m [] ys e = refl
-pairs_append m (a ∷ []) ys e = absurd (omega arith)
-pairs_append m (a ∷ b ∷ xs) ys e = cc (pairs_append (m - 1) xs ys (omega arith))
+pair_is [] high low e small h l = absurd (omega arith)
+pair_is (a ∷ []) high low e small h l = absurd (omega arith)
+pair_is (a ∷ b ∷ []) high low e small h l =
+    let one : a * 16 / 256 % 256 ≡ a / 16 = omega (arith, small 0) in
+    let two : a * 16 % 256 + b / 256 % 256 ≡ a % 16 * 16 + b / 256 = omega (arith, small 0, small 1) in
+    rw (h, l) (cc)
+pair_is (a ∷ b ∷ c ∷ xs) high low e small h l = absurd (omega arith)
 
-fields_append : (m : ℕ) (xs ys : List ℕ) → length xs ≡ 3 * m → fields (xs ++ ys) ≡ fields xs ++ fields ys
+pub triple_is : (ys : List ℕ) (p q : ℕ) → length ys ≡ 3 → ((i : ℕ) → get_or ys i 0 < 256) → p ≡ from_be_bytes w16 (get_or ys 0 0 ∷ get_or ys 1 0 ∷ []) →
+    q ≡ from_be_bytes w16 (get_or ys 1 0 ∷ get_or ys 2 0 ∷ []) → (p / 16 ∷ q % 4096 ∷ []) ≡ fields ys
 unfolding fields
-fields_append m [] ys e = refl
-fields_append m (x ∷ []) ys e = absurd (omega arith)
-fields_append m (x ∷ y ∷ []) ys e = absurd (omega arith)
-fields_append m (x ∷ y ∷ z ∷ xs) ys e = cc (fields_append (m - 1) xs ys (omega arith))
+triple_is [] p q e small h l = absurd (omega arith)
+triple_is (x ∷ []) p q e small h l = absurd (omega arith)
+triple_is (x ∷ y ∷ []) p q e small h l = absurd (omega arith)
+triple_is (x ∷ y ∷ z ∷ []) p q e small h l =
+    let one : p / 16 ≡ x * 16 + y / 16 = omega (arith, small 1) in
+    let two : q % 4096 ≡ y % 16 * 256 + z = omega (arith, small 2) in
+    cc
+triple_is (x ∷ y ∷ z ∷ w ∷ ys) p q e small h l = absurd (omega arith)
 
--- the block when g pairs of fields are packed
-abbrev pub packing : ℕ → ℕ → List ℕ → ℕ → List ℕ
-packing n count xs g = front n count ++ (pairs (take (2 * g) xs) ++ replicate (507 - 3 * g) 0)
+-- numbers that are below m are so in each group
+pub chunks_below : (n k m : ℕ) (xs : List ℕ) → ((i : ℕ) → get_or xs i 0 < m) → (g i : ℕ) → get_or (get_or (first_chunks n k xs) g []) i 0 < m
+chunks_below n zero m xs h g i = omega (arith, h 0)
+chunks_below n (suc k) m xs h zero i = elim (cases_lt i n) [
+  | inl lt ↦ rw get_or-take (h i)
+  | inr le ↦ let past = get_or_past (take n xs) i 0 (simp length-take (omega arith)) in omega (arith, h 0)
+]
+chunks_below n (suc k) m xs h (suc g) i = chunks_below n k m (drop n xs) (λ j. rw get_or-drop (h (n + j))) g i
 
-pub pack_more : (n count : ℕ) (xs out : List ℕ) (g : ℕ) → length xs ≡ 32 → g < 16 → out ≡ packing n count xs g →
-    set (set (set out (5 + 3 * g) (get_or xs (2 * g) 0 / 16)) (6 + 3 * g) (get_or xs (2 * g) 0 % 16 * 16 + get_or xs (2 * g + 1) 0 / 256)) (7 + 3 * g) (get_or xs (2 * g + 1) 0 % 256) ≡ packing n count xs (g + 1)
+pub pairs_chunks : (m : ℕ) (xs : List ℕ) → length xs ≡ 2 * m → flat_map pairs (first_chunks 2 m xs) ≡ pairs xs
 unfolding pairs
-pack_more n count xs out g e h was =
-    let len : length (take (2 * g) xs) ≡ 2 * g = length-take-le (2 * g) xs (omega arith) in
-    let long = length_pairs g (take (2 * g) xs) len in
-    let on : 2 * (g + 1) ≡ 2 * g + 2 = omega arith in
-    let taken = take-add (2 * g) 2 xs in
-    let two = run_is 2 (2 * g) xs (omega arith) in
-    let more = pairs_append g (take (2 * g) xs) (run 2 (2 * g) xs) len in
-    let next : 6 + 3 * g ≡ suc (5 + 3 * g) = omega arith in
-    let last : 7 + 3 * g ≡ suc (suc (5 + 3 * g)) = omega arith in
-    let less : 507 - 3 * g - 3 ≡ 507 - 3 * (g + 1) = omega arith in
-    let done = write_on (front n count ++ pairs (take (2 * g) xs)) (pairs (run 2 (2 * g) xs)) (5 + 3 * g) (507 - 3 * g) (omega arith) (omega arith) in
-    let join = append_assoc (pairs (take (2 * g) xs)) (pairs (run 2 (2 * g) xs)) (replicate (507 - 3 * (g + 1)) 0) in
-    cc
+pairs_chunks zero [] e = refl
+pairs_chunks zero (a ∷ xs) e = absurd (omega arith)
+pairs_chunks (suc m) [] e = absurd (omega arith)
+pairs_chunks (suc m) (a ∷ []) e = absurd (omega arith)
+pairs_chunks (suc m) (a ∷ b ∷ xs) e = ap (λ (ys : List ℕ). pairs (a ∷ b ∷ []) ++ ys) (pairs_chunks m xs (omega arith))
 
--- the fields when g pairs of them are read
-abbrev pub reading : List ℕ → ℕ → List ℕ
-reading bs g = fields (take (3 * g) (drop 5 bs)) ++ replicate (32 - 2 * g) 0
-
-pub read_more : (bs xs : List ℕ) (g : ℕ) → length bs ≡ 512 → g < 16 → xs ≡ reading bs g →
-    set (set xs (2 * g) (get_or bs (5 + 3 * g) 0 * 16 + get_or bs (6 + 3 * g) 0 / 16)) (2 * g + 1) (get_or bs (6 + 3 * g) 0 % 16 * 256 + get_or bs (7 + 3 * g) 0) ≡ reading bs (g + 1)
+pub fields_chunks : (m : ℕ) (ys : List ℕ) → length ys ≡ 3 * m → flat_map fields (first_chunks 3 m ys) ≡ fields ys
 unfolding fields
-read_more bs xs g e h was =
-    let len : length (take (3 * g) (drop 5 bs)) ≡ 3 * g = length-take-le (3 * g) (drop 5 bs) (simp length-drop (omega arith)) in
-    let long = length_fields g (take (3 * g) (drop 5 bs)) len in
-    let on : 3 * (g + 1) ≡ 3 * g + 3 = omega arith in
-    let taken = take-add (3 * g) 3 (drop 5 bs) in
-    let from = drop-drop (3 * g) 5 bs in
-    let three = run_is 3 (5 + 3 * g) bs (omega arith) in
-    let more = fields_append g (take (3 * g) (drop 5 bs)) (run 3 (5 + 3 * g) bs) len in
-    let second : 6 + 3 * g ≡ 5 + 3 * g + 1 = omega arith in
-    let third : 7 + 3 * g ≡ 5 + 3 * g + 1 + 1 = omega arith in
-    let next : 2 * g + 1 ≡ suc (2 * g) = omega arith in
-    let less : 32 - 2 * g - 2 ≡ 32 - 2 * (g + 1) = omega arith in
-    let done = write_on (fields (take (3 * g) (drop 5 bs))) (fields (run 3 (5 + 3 * g) bs)) (2 * g) (32 - 2 * g) (omega arith) (omega arith) in
-    let join = append_assoc (fields (take (3 * g) (drop 5 bs))) (fields (run 3 (5 + 3 * g) bs)) (replicate (32 - 2 * (g + 1)) 0) in
-    cc
+fields_chunks zero [] e = refl
+fields_chunks zero (x ∷ ys) e = absurd (omega arith)
+fields_chunks (suc m) [] e = absurd (omega arith)
+fields_chunks (suc m) (x ∷ []) e = absurd (omega arith)
+fields_chunks (suc m) (x ∷ y ∷ []) e = absurd (omega arith)
+fields_chunks (suc m) (x ∷ y ∷ z ∷ ys) e = ap (λ (zs : List ℕ). fields (x ∷ y ∷ z ∷ []) ++ zs) (fields_chunks m ys (omega arith))
+
+-- when all groups are done
+pub all_filled : {X : Type 0} (f : X → List ℕ) (head : List ℕ) (xs : List X) (g left rest : ℕ) (zs : List ℕ) → length xs ≤ g → left ≡ rest → flat_map f xs ≡ zs → filling f head xs g left ≡ (head ++ zs) ++ replicate rest 0
+all_filled f head xs g left rest zs all e is = cc (take_all g xs all)

@@ -3,33 +3,29 @@ use Rattle.std.proofs.Common.{◌≡◌, ℕ, ◌+◌, ◌-◌, ◌*◌, ◌/◌
 use Rattle.disks.specs.Meaning.{Content, Whole}
 use Rattle.std.specs.List.{AllByRecursion}
 use Rattle.std.proofs.ByRecursion.{All-get_or, All-from_get_or, All-append}
-use Rattle.std.proofs.lemmas.List.{places, length-append, length-replicate, length-take-le, length-drop, get_or-replicate, get_or-drop, get_or-take, get_or_past, take_at, drop_at, drop-drop, take-append-drop}
-use Rattle.std.proofs.lemmas.Bool.{cases_lt, cases_Bool}
-use Rattle.store.specs.Layout.{HeaderValues, InRange, filled, pairs, fields, packed, n_in, count_in, fields_in, fits, all_zero, well_formed, unpacked, OnlyPacking, PackedExamples, UnpackedExamples}
+use Rattle.std.proofs.lemmas.List.{length-append, length-replicate, length-take-le, length-drop, get_or-replicate, get_or-drop, get_or-take, get_or_past, take_at, drop_at, drop-drop, take-append-drop}
+use Rattle.std.proofs.lemmas.Bool.{cases_lt}
+use Rattle.store.specs.Layout.{HeaderValues, InRange, filled, pairs, fields, packed, n_in, count_in, fields_in, all_zero, well_formed, unpacked, OnlyPacking, PackedExamples, UnpackedExamples}
 use Rattle.store.specs.Bits.{bits, WellFormedExactly}
 use Rattle.store.proofs.Bits.{packed_bits, bits_one_to_one}
-use Rattle.store.proofs.Groups.{run_is}
-use Rattle.store.proofs.Fields.{length_pairs, length_fields, fields_pairs, pairs_fields, pairs_bytes, zeros, length_log, log_in_range, filled_log}
-use Rattle.store.proofs.Tests.{Right, fits_tells, blank_on, zero_tells, WellFormed, well_formed_tells, header_in, accepted}
+use Rattle.store.proofs.Fields.{length_pairs, length_fields, fields_pairs, pairs_fields, pairs_bytes, filled_long, filled_small, run_is, below_tells, zeros, zero_replicate, filled_log}
+use Rattle.store.proofs.Tests.{WellFormed, header_in, accepted, unpacks}
 
 pub packed_examples : PackedExamples
 unfolding packed pairs
 packed_examples = (refl, refl)
 
 pub unpacked_examples : UnpackedExamples
-unfolding unpacked well_formed fields fits all_zero
+unfolding unpacked well_formed fields
 unpacked_examples = (refl, refl, refl, refl)
 
 -- a header in its ranges
 module _ (h : HeaderValues) (k : InRange h) where
   length_filled : length (filled h.log) ≡ 32
-  length_filled = simp (length-append, length-replicate) (let few = k.few in omega arith)
-
-  right : (i : ℕ) → i < length (filled h.log) → Right h.n (length h.log) (filled h.log) i
-  right i l = record { named = λ lt. grind (arith, places, k.below i); blank = λ le. grind (arith, places) }
+  length_filled = filled_long h.log k.few
 
   small : AllByRecursion (λ x. x < 4096) (filled h.log)
-  small = All-from_get_or _ _ 0 (λ i l. grind (arith, places, k.below i))
+  small = All-from_get_or _ _ 0 (λ i l. filled_small h k i)
 
   long : length (pairs (filled h.log)) ≡ 48
   long = length_pairs 16 (filled h.log) length_filled
@@ -62,14 +58,15 @@ module _ (h : HeaderValues) (k : InRange h) where
   fields_back = ap fields (take_at (pairs (filled h.log)) (replicate 459 0) 48 long) ∙ fields_pairs 16 (filled h.log) length_filled small
 
   packed_well_formed : WellFormed (packed h)
-  unfolding packed all_zero
+  unfolding packed
   packed_well_formed = record {
     mark_high = refl;
     mark_low = refl;
     layout = omega arith;
     few = omega arith;
     zero_bits = omega arith;
-    fit = cc (n_back, count_back, fields_back, (fits_tells h.n (length h.log) (filled h.log)).1 right);
+    below = cc (n_back, count_back, fields_back, take_at h.log (replicate (32 - length h.log) 0) _ refl, (below_tells h.n h.log).1 k.below);
+    blank = cc (count_back, fields_back, drop_at h.log (replicate (32 - length h.log) 0) _ refl, zero_replicate (32 - length h.log));
     rest = ap all_zero (drop_at (pairs (filled h.log)) (replicate 459 0) 48 long);
   }
 
@@ -94,11 +91,16 @@ module _ (bs : Content) (w : Whole bs) where
 
   -- well-formed ones
   module _ (f : WellFormed bs) where
-    right_in : (i : ℕ) → i < length (fields_in bs) → Right (n_in bs) (count_in bs) (fields_in bs) i
-    right_in = (fits_tells (n_in bs) (count_in bs) (fields_in bs)).0 f.fit
+    long_log : length (take (count_in bs) (fields_in bs)) ≡ count_in bs
+    long_log = length-take-le (count_in bs) (fields_in bs) (omega (arith, length_fields_in, f.few))
 
     in_range : InRange (header_in bs)
-    in_range = log_in_range (count_in bs) (fields_in bs) length_fields_in f.few (n_in bs) (omega arith) (omega (arith, w.bytes 3)) (λ i l. (right_in i (omega (arith, length_fields_in))).named l)
+    in_range = record {
+      some = omega arith;
+      most = omega (arith, w.bytes 3);
+      few = omega (arith, long_log, f.few);
+      below = (below_tells (n_in bs) (take (count_in bs) (fields_in bs))).0 f.below;
+    }
 
     as_packed : bs ≡ packed (header_in bs)
     unfolding packed
@@ -106,22 +108,16 @@ module _ (bs : Content) (w : Whole bs) where
         let first = run_is 5 0 bs (let e = w.long in omega arith) in
         let high : 16 + (n_in bs - 1) / 256 ≡ get_or bs 2 0 = omega (arith, w.bytes 3) in
         let low : (n_in bs - 1) % 256 ≡ get_or bs 3 0 = omega (arith, w.bytes 3) in
-        let count : length (take (count_in bs) (fields_in bs)) * 4 ≡ get_or bs 4 0 = omega (arith, length_log (count_in bs) (fields_in bs) length_fields_in f.few) in
-        let named = filled_log (count_in bs) (fields_in bs) length_fields_in f.few (blank_on _ _ (fields_in bs) right_in) in
-        let rest = zeros (drop 53 bs) ((zero_tells (drop 53 bs)).0 f.rest) in
+        let count : length (take (count_in bs) (fields_in bs)) * 4 ≡ get_or bs 4 0 = omega (arith, long_log) in
+        let named = filled_log (count_in bs) (fields_in bs) length_fields_in f.few f.blank in
+        let rest = zeros (drop 53 bs) f.rest in
         let long : length (drop 53 bs) ≡ 459 = simp length-drop (let e = w.long in omega arith) in
         cc (take-append-drop 5 bs, take-append-drop 48 (drop 5 bs), drop-drop 48 5 bs, pairs_in)
 
   pub only : OnlyPacking bs
-  unfolding unpacked
   only h e =
-      elim (cases_Bool (well_formed bs)) [
-        | inl t ↦
-            let f = (well_formed_tells bs).0 t in
-            let same : header_in bs ≡ h = cc (accepted bs f) in
-            subst (λ (v : HeaderValues). InRange v × (bs ≡ packed v)) same (in_range f, as_packed f)
-        | inr t ↦ let z : ◌≡◌ {A = ℕ} 0 1 = cc in absurd (omega arith)
-      ]
+      let u = unpacks bs h e in
+      subst (λ (v : HeaderValues). InRange v × (bs ≡ packed v)) u.1 (in_range u.0, as_packed u.0)
 
   pub exactly : WellFormedExactly bs
   exactly h = (

@@ -1,7 +1,6 @@
 -- What a header record says.
-use Rattle.std.specs.Prelude.{take}
 use Rattle.store.specs.Layout.{HeaderValues}
 use Rattle.store.specs.declared.header.Header.{Header}
 
 abbrev pub header_values : Header → HeaderValues
-header_values h = record { n = h.n; log = take h.count h.addresses }
+header_values h = record { n = h.n; log = h.log }

@@ -1,5 +1,6 @@
 -- The header and the bytes that it is packed to.
-use Rattle.std.specs.Prelude.{◌≡◌, ℕ, zero, suc, ◌+◌, ◌-◌, ◌*◌, ◌/◌, ◌%◌, ◌<◌, ◌≤◌, Bool, true, cond, ◌&&◌, List, [], ◌∷◌, ◌++◌, length, take, drop, replicate, Some, None, Option, ◌==◌, nat_le, nat_lt, slice_index}
+use Rattle.std.specs.Prelude.{◌≡◌, ℕ, ◌+◌, ◌-◌, ◌*◌, ◌/◌, ◌%◌, ◌<◌, ◌≤◌, Bool, cond, ◌&&◌, List, [], ◌∷◌, ◌++◌, length, take, drop, replicate, Some, None, Option, ◌==◌, nat_le, nat_lt, slice_index}
+use Rattle.std.specs.List.{list_all}
 use Rattle.disks.specs.Meaning.{Content}
 
 -- a header: N, and the addresses of the log slots 1, 2, and so on
@@ -65,16 +66,25 @@ count_in bs = slice_index bs 4 / 4
 abbrev pub fields_in : Content → List ℕ
 fields_in bs = fields (take 48 (drop 5 bs))
 
--- the first `count` fields are below n, the others zero
-unfoldable pub fits : ℕ → ℕ → List ℕ → Bool
-fits n count [] = true
-fits n zero (x ∷ xs) = x == 0 && fits n zero xs
-fits n (suc count) (x ∷ xs) = nat_lt x n && fits n count xs
+-- each number is zero
+abbrev pub all_zero : List ℕ → Bool
+all_zero xs = list_all (λ x. x == 0) xs
 
--- each byte is zero
-unfoldable pub all_zero : List ℕ → Bool
-all_zero [] = true
-all_zero (b ∷ bs) = b == 0 && all_zero bs
+-- each number is below n
+abbrev pub all_below : ℕ → List ℕ → Bool
+all_below n xs = list_all (λ x. nat_lt x n) xs
+
+-- the first `count` fields are below n, the others zero
+abbrev pub fits : ℕ → ℕ → List ℕ → Bool
+fits n count xs = all_below n (take count xs) && all_zero (drop count xs)
+
+-- the log of which `count` of 32 fields are in use, if there are so many and the others are zero
+abbrev pub log_in : ℕ → List ℕ → Option (List ℕ)
+log_in count xs = cond (nat_le count 32 && all_zero (drop count xs)) (Some (take count xs)) None
+
+-- the log with one more address, if there is a field for it
+abbrev pub added : List ℕ → ℕ → List ℕ
+added log a = cond (nat_lt (length log) 32) (log ++ (a ∷ [])) log
 
 -- mark and layout; count, zero bits and fields; the last 459 bytes
 unfoldable pub well_formed : Content → Bool

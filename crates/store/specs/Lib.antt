@@ -1,5 +1,6 @@
 pub mod Layout
 pub mod Bits
+pub mod LogFields
 pub mod Headers
 pub mod Log
 pub mod LookValues

@@ -1,15 +1,19 @@
 // The header as the bytes of a block, and back.
-ghost use Rattle.std.specs.Prelude.{◌≡◌, Some};
+ghost use Rattle.std.specs.Prelude.{◌≡◌, ℕ, ◌<◌, Some, slice_index};
 ghost use Rattle.std.specs.Option.{option_map};
 ghost use Rattle.store.specs.Headers.{header_values};
-ghost use Rattle.store.specs.Layout.{packed, unpacked, fits, fields_in, all_zero, PackedExamples, UnpackedExamples, OnlyPacking};
+ghost use Rattle.store.specs.Layout.{packed, unpacked, pairs, fields, fields_in, all_below, PackedExamples, UnpackedExamples, OnlyPacking};
 ghost use Rattle.store.specs.Bits.{bits, layout_bits, WellFormedExactly};
 
 use crate::header::Header;
+use crate::header::log::{Log, holds_only};
 use disks::block::{BLOCK_BYTES, Block};
 
 // The mark in the first two bytes tells a store's header from other blocks.
 const MARK: [u8; 2] = [0xB1, 0x0C];
+
+// Layout 1, above the 12 bits of N - 1.
+const LAYOUT: u16 = 0x1000;
 
 impl Header {
     pub fn pack(&self) -> Block
@@ -19,18 +23,12 @@ impl Header {
         ensures examples { PackedExamples }
     {
         let mut out = [0u8; BLOCK_BYTES];
-        out[0] = MARK[0];
-        out[1] = MARK[1];
-        let last = self.n - 1;
-        out[2] = 16 + (last / 256) as u8;
-        out[3] = (last % 256) as u8;
-        out[4] = self.count * 4;
-        for g in 0..16usize {
-            let a = self.addresses[2 * g];
-            let b = self.addresses[2 * g + 1];
-            out[5 + 3 * g] = (a / 16) as u8;
-            out[6 + 3 * g] = (a % 16 * 16 + b / 256) as u8;
-            out[7 + 3 * g] = (b % 256) as u8;
+        out[..2].copy_from_slice(&MARK);
+        out[2..4].copy_from_slice(&(LAYOUT + (self.n - 1)).to_be_bytes());
+        out[4] = self.log.addresses().len() as u8 * 4;
+        let (pairs, _) = self.log.fields().as_chunks::<2>();
+        for (g, pair) in pairs.iter().enumerate() {
+            out[5 + 3 * g..8 + 3 * g].copy_from_slice(&pack_pair(pair));
         }
         out
     }
@@ -41,25 +39,18 @@ impl Header {
         ensures exactly { WellFormedExactly bytes.now }
         ensures examples { UnpackedExamples }
     {
-        let n = (bytes[2] % 16) as u16 * 256 + bytes[3] as u16 + 1;
-        let count = bytes[4] / 4;
-        let addresses = read_fields(bytes);
-        if bytes[0] != MARK[0]
-            || bytes[1] != MARK[1]
-            || bytes[2] / 16 != 1
-            || count > 32
+        let layout = u16::from_be_bytes([bytes[2], bytes[3]]);
+        let n = layout % LAYOUT + 1;
+        let log = Log::from_fields(usize::from(bytes[4] / 4), read_fields(bytes))?;
+        if !bytes.starts_with(&MARK)
+            || layout / LAYOUT != 1
             || bytes[4] % 4 != 0
+            || !is_below(n, log.addresses())
+            || !holds_only(&bytes[53..], &0)
         {
             return None;
         }
-        if !in_range(n, count, &addresses) || !is_zero(&bytes[53..]) {
-            return None;
-        }
-        Some(Header {
-            n,
-            count,
-            addresses,
-        })
+        Some(Header { n, log })
     }
 }
 
@@ -67,41 +58,37 @@ impl Header {
 fn read_fields(bytes: &Block) -> [u16; 32]
     ensures { result ≡ fields_in bytes.now }
 {
-    let mut fields = [0u16; 32];
-    for g in 0..16usize {
-        let x = bytes[5 + 3 * g] as u16;
-        let y = bytes[6 + 3 * g] as u16;
-        let z = bytes[7 + 3 * g] as u16;
-        fields[2 * g] = x * 16 + y / 16;
-        fields[2 * g + 1] = y % 16 * 256 + z;
+    let mut out = [0u16; 32];
+    let (triples, _) = bytes[5..53].as_chunks::<3>();
+    for (g, triple) in triples.iter().enumerate() {
+        out[2 * g..2 * g + 2].copy_from_slice(&unpack_pair(triple));
     }
-    fields
+    out
 }
 
-// The first `count` are below n, the others zero.
-fn in_range(n: u16, count: u8, fields: &[u16; 32]) -> bool
-    ensures { result ≡ fits n count fields.now }
+// Two fields of 12 bits in three bytes.
+fn pack_pair(pair: &[u16; 2]) -> [u8; 3]
+    requires { (i : ℕ) → slice_index pair.now i < 4096 }
+    ensures { result ≡ pairs pair.now }
 {
-    for i in 0..32usize {
-        let ok = if i < count as usize {
-            fields[i] < n
-        } else {
-            fields[i] == 0
-        };
-        if !ok {
-            return false;
-        }
-    }
-    true
+    let [a, b] = *pair;
+    let [high, low] = (a * 16).to_be_bytes();
+    let [top, rest] = b.to_be_bytes();
+    [high, low + top, rest]
 }
 
-fn is_zero(bytes: &[u8]) -> bool
-    ensures { result ≡ all_zero bytes.now }
+fn unpack_pair(triple: &[u8; 3]) -> [u16; 2]
+    ensures { result ≡ fields triple.now }
 {
-    for b in bytes {
-        if *b != 0 {
-            return false;
-        }
-    }
-    true
+    let [x, y, z] = *triple;
+    [
+        u16::from_be_bytes([x, y]) / 16,
+        u16::from_be_bytes([y, z]) % 4096,
+    ]
+}
+
+fn is_below(n: u16, addresses: &[u16]) -> bool
+    ensures { result ≡ all_below n addresses.now }
+{
+    addresses.iter().all(|a| *a < n)
 }

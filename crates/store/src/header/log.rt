@@ -1,39 +1,112 @@
-// What a header says of the plan and of its log.
-ghost use Rattle.std.specs.Prelude.{◌≡◌, ℕ};
+// The log of a header: the addresses of the log slots 1, 2 and so on.
+ghost use Rattle.std.specs.Prelude.{◌≡◌, ℕ, ◌≤◌, [], length, take, nat_lt};
+ghost use Rattle.std.specs.List.{list_all};
 ghost use Rattle.std.specs.Option.{unwrap_or};
-ghost use Rattle.store.specs.Headers.{header_values};
+ghost use Rattle.store.specs.Layout.{filled, added, log_in};
 ghost use Rattle.store.specs.Log.{newest, Newest};
 
-use crate::header::Header;
+use std::marker::Model;
 
-impl Header {
-    pub fn n(&self) -> u16
-        ensures { result ≡ (header_values self.now).n }
+// A header has 32 address fields. They stay in memory as they stand in its block, so that a log needs no heap.
+#[derive(Clone, Copy)]
+pub(super) struct Log {
+    // How many log slots are in use.
+    count: usize,
+    // The addresses of these slots, then zeros.
+    fields: [u16; 32],
+}
+
+impl Model for Log {
+    ghost use Rattle.std.specs.Prelude.{List, ℕ};
+
+    ghost Value = { List ℕ };
+
+    ghost use Rattle.store.specs.LogFields.{log_of, KeepsFields, fields_of, back};
+
+    ghost view = { log_of };
+
+    ghost invariant = { KeepsFields };
+
+    ghost inverse = { fields_of };
+
+    ghost inverse_ok = { back };
+}
+
+impl Log {
+    pub(super) fn new() -> Log
+        ensures { result ≡ [] }
     {
-        self.n
+        Log {
+            count: 0,
+            fields: [0; 32],
+        }
     }
 
-    // The addresses of log slots 1, 2 and so on.
-    pub fn log(&self) -> &[u16]
-        ensures { result.now ≡ (header_values self.now).log }
+    // The log of which the first `count` fields are in use, if there are so many and the others are zero.
+    pub(super) fn from_fields(count: usize, fields: [u16; 32]) -> Option<Log>
+        ensures { result ≡ log_in count fields }
     {
-        &self.addresses[0..self.count as usize]
+        if count > 32 || !holds_only(&fields[count..], &0) {
+            return None;
+        }
+        Some(Log { count, fields })
     }
 
-    // The newest log slot that holds the address.
-    pub fn slot_of(&self, address: u16) -> Option<u16>
-        ensures value { (d : ℕ) → unwrap_or result d ≡ newest 1 (header_values self.now).log address d }
-        ensures newest { Newest (header_values self.now).log address result }
+    pub(super) fn fields(&self) -> &[u16; 32]
+        ensures { result.now ≡ filled self.now }
     {
-        let mut i = self.count as usize;
+        &self.fields
+    }
+
+    pub(super) fn addresses(&self) -> &[u16]
+        ensures value { result.now ≡ self.now }
+        ensures few { length self.now ≤ 32 }
+    {
+        &self.fields[..self.count]
+    }
+
+    // Adds the address at the end. It answers whether there was room for it.
+    pub(super) fn push(&mut self, address: u16) -> bool
+        ensures room { result ≡ nat_lt (length self.old) 32 }
+        ensures after { self.new ≡ added self.old address }
+    {
+        if self.count >= 32 {
+            return false;
+        }
+        self.fields[self.count] = address;
+        self.count += 1;
+        true
+    }
+
+    // Keeps the first `len` addresses.
+    pub(super) fn truncate(&mut self, len: usize)
+        ensures { self.new ≡ take len self.old }
+    {
+        if len < self.count {
+            self.fields[len..].fill(0);
+            self.count = len;
+        }
+    }
+
+    // The newest slot that holds the address. Slots count from 1, so a log's last address stands in the slot of its length.
+    pub(super) fn slot_of(&self, address: u16) -> Option<u16>
+        ensures value { (d : ℕ) → unwrap_or result d ≡ newest 1 self.now address d }
+        ensures newest { Newest self.now address result }
+    {
+        let mut log = self.addresses();
         loop {
-            if i == 0 {
-                break None;
-            }
-            i -= 1;
-            if self.addresses[i] == address {
-                break Some(1 + i as u16);
+            match log {
+                [] => break None,
+                [.., last] if *last == address => break Some(log.len() as u16),
+                [older @ .., _] => log = older,
             }
         }
     }
+}
+
+// Whether each item is x.
+pub(super) fn holds_only<T: PartialEq>(items: &[T], x: &T) -> bool
+    ensures { result ≡ list_all (λ y. T.eq y x.now) items.now }
+{
+    items.iter().all(|y| y == x)
 }

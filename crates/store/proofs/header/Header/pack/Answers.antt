@@ -1,39 +1,46 @@
-use Rattle.std.proofs.Common.{◌≡◌, length, refl, ap, ◌∙◌, arith, rules}
-use Rattle.std.proofs.lemmas.List.{take_all}
-use Rattle.store.specs.Layout.{InRange, pairs, packed, unpacked}
+use Rattle.std.proofs.Common.{◌≡◌, ℕ, ◌+◌, ◌-◌, ◌*◌, ◌/◌, ◌<◌, ◌≤◌, List, [], length, get_or, ap, ◌∙◌, arith}
+use Rattle.std.specs.List.{flat_map}
+use Rattle.std.specs.Simd.{first_chunks}
+use Rattle.store.specs.Layout.{HeaderValues, filled, front, pairs, packed, unpacked}
 use Rattle.store.specs.Bits.{bits}
 use Rattle.store.specs.Headers.{header_values}
-use Rattle.store.specs.declared.header.Header.{Header}
-use Rattle.store.proofs.Groups.{packing, pack_more}
 use Rattle.store.proofs.Bits.{packed_bits}
-use Rattle.store.proofs.Fields.{length_log, log_in_range, filled_log}
+use Rattle.store.proofs.Groups.{filling, fill_more, chunks_below, pairs_chunks, all_filled}
+use Rattle.store.proofs.Fields.{filled_long, filled_small}
 use Rattle.store.proofs.Round.{there, packed_examples}
 use Rattle.store.proofs.header.Header.pack.Goals as goal
 
-pub loop-g-init : goal.loop-g-init
-unfolding pairs
-loop-g-init c = refl
+pub pack_pair-requires : goal.pack_pair-requires
+pack_pair-requires c i =
+    let h = c.args.self.now in
+    let small : (j : ℕ) → get_or c.fields.result.now j 0 < 4096 = λ j. rw c.fields.ensures (filled_small (header_values h) h.in_range j) in
+    rw c.as_chunks.ensures.front (chunks_below 2 _ 4096 c.fields.result.now small c.loop-g.g i)
 
 pub loop-g-preserved : goal.loop-g-preserved
-loop-g-preserved c = pack_more _ _ c.args.self.now.addresses _ c.loop-g.g (search rules) c.loop-g-test.true c.loop-g.invariant
+loop-g-preserved c =
+    let g = c.loop-g.g in
+    let h = c.args.self.now in
+    fill_more pairs (front h.n (length h.log)) c.as_chunks.result.0.now [] g (5 + 3 * g) _ (507 - 3 * g) (507 - 3 * (g + 1)) c.copy_from_slice-in-loop-g.new.self c.loop-g.out c.loop-g.invariant c.loop-g-test.true
+    (c.copy_from_slice-in-loop-g.ensures.after ∙ c.pack_pair.ensures) (omega arith) (omega arith) (omega arith)
 
-module _ (h : Header) (e : length h.addresses ≡ 32) where
-  in_range : InRange (header_values h)
-  in_range = log_in_range h.count h.addresses e h.counted h.n h.some h.most h.named
-
-  all_packed : packing h.n h.count h.addresses 16 ≡ packed (header_values h)
-  unfolding packed
-  all_packed = cc (take_all 32 h.addresses (omega arith), length_log h.count h.addresses e h.counted, filled_log h.count h.addresses e h.counted h.blank)
+-- the loop's end is the packed header
+end : (h : HeaderValues) → length h.log ≤ 32 → (fields out : List ℕ) (chunks : List (List ℕ)) (g : ℕ) → fields ≡ filled h.log → chunks ≡ first_chunks 2 (length fields / 2) fields → length chunks ≡ length fields / 2 →
+    length chunks ≤ g → g ≤ length chunks → out ≡ filling pairs (front h.n (length h.log)) chunks g (507 - 3 * g) → out ≡ packed h
+unfolding packed
+end h few fields out chunks g is cut count all most out_is =
+    let long : length fields ≡ 32 = ap (λ (xs : List ℕ). length xs) is ∙ filled_long h.log few in
+    let given = ap (λ (xs : List (List ℕ)). flat_map pairs xs) cut ∙ (pairs_chunks (length fields / 2) fields (omega arith) ∙ ap pairs is) in
+    out_is ∙ all_filled pairs (front h.n (length h.log)) chunks g (507 - 3 * g) 459 (pairs (filled h.log)) all (omega arith) given
 
 pub returns : goal.returns
 returns c =
     let h = c.args.self.now in
-    let e : length h.addresses ≡ 32 = search rules in
-    let all : c.loop-g.g ≡ 16 = omega arith in
-    let value : c.loop-g.out ≡ packed (header_values h) = c.loop-g.invariant ∙ (ap (packing h.n h.count h.addresses) all ∙ all_packed h e) in
+    let value : c.loop-g.out ≡ packed (header_values h) =
+    end (header_values h) h.in_range.few c.fields.result.now c.loop-g.out c.as_chunks.result.0.now c.loop-g.g c.fields.ensures c.as_chunks.ensures.front c.as_chunks.ensures.front_len
+    c.loop-g-test.false c.loop-g.auto.g-end c.loop-g.invariant in
     record {
       value = value;
-      back = ap unpacked value ∙ there (header_values h) (in_range h e);
-      layout = ap bits value ∙ packed_bits (header_values h) (in_range h e);
+      back = ap unpacked value ∙ there (header_values h) h.in_range;
+      layout = ap bits value ∙ packed_bits (header_values h) h.in_range;
       examples = packed_examples;
     }

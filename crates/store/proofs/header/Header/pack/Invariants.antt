@@ -1,6 +1,7 @@
-use Rattle.std.proofs.Common.{◌≡◌}
-use Rattle.store.proofs.Groups.{packing}
+use Rattle.std.proofs.Common.{◌≡◌, ◌-◌, ◌*◌, length}
+use Rattle.store.specs.Layout.{front, pairs}
+use Rattle.store.proofs.Groups.{filling}
 use Rattle.store.proofs.header.Header.pack.Given as goal
 
 abbrev pub invariant-loop-g : goal.invariant-loop-g
-invariant-loop-g l = l.out ≡ packing l.self.n l.self.count l.self.addresses l.g
+invariant-loop-g l = l.out ≡ filling pairs (front l.self.n (length l.self.log)) l.pairs l.g (507 - 3 * l.g)
