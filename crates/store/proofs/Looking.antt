@@ -1,47 +1,35 @@
 -- Look: its ends, step by step, and what they mean.
-use Rattle.std.proofs.Common.{◌≡◌, ℕ, suc, ◌+◌, ◌-◌, ◌<◌, ◌≤◌, Bool, true, false, cond, eqb, ltb, ◌⊎◌, List, [], ◌∷◌, length, Some, None, Ok, Err, MatchBool, Option, sym, refl, ap, ◌∙◌, subst, inl, inr, ⊎_elim, arith}
+use Rattle.std.proofs.Common.{◌≡◌, ℕ, suc, ◌+◌, ◌-◌, ◌<◌, ◌≤◌, Bool, true, false, ltb, ◌⊎◌, List, [], ◌∷◌, length, Some, None, Ok, Err, MatchBool, Option, sym, refl, ap, ◌∙◌, subst, inl, inr, arith}
 use Rattle.disks.specs.Values.{StateValues, On, Dark, Dead, PastEnd, answer_by}
 use Rattle.disks.specs.Meaning.{View, Content, Shown, Off, Kept, FacesKeep, NoneGained, Unchanged, Means, ReadMeans, ReadOn}
 use Rattle.disks.proofs.Views.{same, on_or_off, kept_then, faces_then, gained_then}
 use Rattle.disks.specs.declared.reader.Reader
-use Rattle.std.proofs.lemmas.Bool.{and_parts, leb-true, eqb-true, ltb-true, lt-ltb, le-ltb, cond-true, cond-false}
+use Rattle.std.proofs.lemmas.Bool.Decides.{nat_tests}
+use Rattle.std.proofs.lemmas.Bool.{both_ways, and_parts, leb-true, ltb-true, lt-ltb, le-ltb, cond-true, cond-false}
 use Rattle.store.specs.Layout.{HeaderValues, unpacked}
 use Rattle.store.specs.Log.{newest, block_for}
-use Rattle.store.specs.LookValues.{LookAnswer, LookRefusalValues, Disk, UnfitSize, NoHeader, PastPlan, look_answer_by}
+use Rattle.store.specs.LookValues.{LookAnswer, LookRefusalValues, Disk, UnfitSize, PastPlan, look_answer_by}
 use Rattle.store.specs.Looks.{fit, plan_of, header_of, header_shown, at_address, found, passed_on, ReadsHeader, ReadsAddress, ReadsBlock, LooksAt, Looks, look_answer, LookMeans, met}
 use Rattle.store.proofs.Tests.{log_fits}
 
 -- a size that gives N is fit
 pub plan_fit : (size n : ℕ) → plan_of size ≡ Some n → (fit size ≡ true) × (n ≡ size - 33)
-plan_fit size n e = go (fit size) refl e
-  where
-    go : (b : Bool) → fit size ≡ b → cond b (Some (size - 33)) None ≡ Some n → (fit size ≡ true) × (n ≡ size - 33)
-    go true f e = (f, cc)
-    go false f e = absurd (let z : ◌≡◌ {A = ℕ} 0 1 = cc in omega arith)
+plan_fit size n e = (grind (arith, nat_tests), grind (arith, nat_tests))
 
 -- a header that is accepted is the one unpacked, and has the N that was asked for
 pub header_is : (n : ℕ) (o : Option HeaderValues) (h : HeaderValues) → header_of n o ≡ Ok h → (o ≡ Some h) × (h.n ≡ n)
-header_is n None h e = absurd (let z : ◌≡◌ {A = ℕ} 0 1 = cc in omega arith)
-header_is n (Some k) h e = go (eqb k.n n) refl e
-  where
-    go : (t : Bool) → eqb k.n n ≡ t → cond t (Ok k) (Err NoHeader) ≡ Ok h → (Some k ≡ Some h) × (h.n ≡ n)
-    go true f g = let is : k ≡ h = cc in (ap (λ (z : HeaderValues). Some z) is, ap (λ (z : HeaderValues). z.n) (sym is) ∙ eqb-true k.n n f)
-    go false f g = absurd (let z : ◌≡◌ {A = ℕ} 0 1 = cc in omega arith)
+header_is n None h e = absurd cc
+header_is n (Some k) h e = (grind (arith, nat_tests), grind (arith, nat_tests))
 
 pub shown_n : (n : ℕ) (y : Shown) (h : HeaderValues) → Ok h ≡ header_shown n y → h.n ≡ n
 shown_n n (Ok b) h e = (header_is n (unpacked b) h (sym e)).1
-shown_n n (Err x) h e = absurd (let z : ◌≡◌ {A = ℕ} 0 1 = cc in omega arith)
-
-true_not_false : true ≡ false → ⊥
-true_not_false e = let z : ◌≡◌ {A = ℕ} 0 1 = cc in omega arith
+shown_n n (Err x) h e = absurd cc
 
 pub when_holds : (P Q : Type 0) (b : Bool) → b ≡ true → P → MatchBool b P Q
-when_holds P Q true e p = p
-when_holds P Q false e p = absurd (let z : ◌≡◌ {A = ℕ} 0 1 = cc in omega arith)
+when_holds P Q b e p = rw e p
 
 pub when_fails : (P Q : Type 0) (b : Bool) → b ≡ false → Q → MatchBool b P Q
-when_fails P Q true e q = absurd (let z : ◌≡◌ {A = ℕ} 0 1 = cc in omega arith)
-when_fails P Q false e q = q
+when_fails P Q b e q = rw e q
 
 when_map : (P P' Q : Type 0) (b : Bool) → (P → P') → MatchBool b P Q → MatchBool b P' Q
 when_map P P' Q true f p = f p
@@ -70,15 +58,10 @@ module _ {S : Type 0} (R : Reader.Ghosts S) (s m t : S) (a n : ℕ) (planned : p
 -- a slot of the log, or the block given
 pub newest_within : (k : ℕ) (log : List ℕ) (a d : ℕ) → newest k log a d < k + length log ⊎ (newest k log a d ≡ d)
 newest_within k [] a d = inr refl
-newest_within k (x ∷ log) a d = go (eqb x a) (newest_within (suc k) log a)
-  where
-    go : (b : Bool) → ((e : ℕ) → newest (suc k) log a e < suc k + length log ⊎ (newest (suc k) log a e ≡ e)) →
-        newest (suc k) log a (cond b k d) < k + suc (length log) ⊎ (newest (suc k) log a (cond b k d) ≡ d)
-    go true more = inl (⊎_elim (λ lt. omega arith) (λ e. omega arith) (more k))
-    go false more = ⊎_elim (λ lt. inl (omega arith)) inr (more d)
+newest_within k (x ∷ log) a d = grind (arith, nat_tests, newest_within (suc k) log a k, newest_within (suc k) log a d)
 
 pub block_within : (log : List ℕ) (a n size : ℕ) → length log ≤ 32 → a < n → n ≡ size - 33 → block_for log a < size
-block_within log a n size few lt e = ⊎_elim (λ l. omega arith) (λ h. omega arith) (newest_within 1 log a (33 + a))
+block_within log a n size few lt e = grind (arith, newest_within 1 log a (33 + a))
 
 header_by : (n : ℕ) (b : Content) (st : StateValues) → header_shown n (answer_by b st) ≡ look_answer_by (header_of n (unpacked b)) st
 header_by n b On = refl
@@ -234,7 +217,7 @@ module _ {S : Type 0} (R : Reader.Ghosts S) where
               answer = z.0 ∙ sym (ap (look_answer_by (found v.size v.face a)) u.state) ∙ sym (cond-true (fit v.size) _ _ f);
               faces = λ _. u.faces;
               gained = u.gained;
-              unfit = λ g. absurd (true_not_false (sym f ∙ g));
+              unfit = λ g. absurd (both_ways _ g f);
               off = λ _. u;
             },
           )
@@ -248,7 +231,7 @@ module _ {S : Type 0} (R : Reader.Ghosts S) where
               answer = p.1.answer ∙ sym (cond-true (fit v.size) _ _ f);
               faces = p.1.faces;
               gained = p.1.gained;
-              unfit = λ g. absurd (true_not_false (sym f ∙ g));
+              unfit = λ g. absurd (both_ways _ g f);
               off = λ off. absurd (subst Off on off);
             },
           )
@@ -259,64 +242,22 @@ module _ {S : Type 0} (R : Reader.Ghosts S) where
 
 -- look never answers that a block lies past the end
 never_past : (v : View) (a : ℕ) (st : StateValues) → look_answer v a st ≡ Err (Disk PastEnd) → ⊥
-never_past v a st e = go (fit v.size) e
-  where
-    header : (o : Option HeaderValues) → header_of (v.size - 33) o ≡ Err (Disk PastEnd) → ⊥
-    header None g = let z : ◌≡◌ {A = ℕ} 0 1 = cc in omega arith
-    header (Some h) g = elim (eqb h.n (v.size - 33)) as (λ b. cond b (Ok h) (Err NoHeader) ≡ Err (Disk PastEnd) → ⊥) [
-      | true ↦ (λ g. let z : ◌≡◌ {A = ℕ} 0 1 = cc in omega arith)
-      | false ↦ (λ g. let z : ◌≡◌ {A = ℕ} 0 1 = cc in omega arith)
-    ] g
-
-    at : (h : LookAnswer HeaderValues) → header_of (v.size - 33) (unpacked (v.face 0)) ≡ h → at_address h v.face a ≡ Err (Disk PastEnd) → ⊥
-    at (Ok h) f g = within (ltb a h.n) g
-      where
-        within : (b : Bool) → cond b (Ok (v.face (block_for h.log a))) (Err PastPlan) ≡ Err (Disk PastEnd) → ⊥
-        within true g = let z : ◌≡◌ {A = ℕ} 0 1 = cc in omega arith
-        within false g = let z : ◌≡◌ {A = ℕ} 0 1 = cc in omega arith
-    at (Err x) f g = header (unpacked (v.face 0)) (f ∙ (let e : ◌≡◌ {A = LookAnswer HeaderValues} (Err x) (Err (Disk PastEnd)) = cc in e))
-
-    by : (st : StateValues) → look_answer_by (found v.size v.face a) st ≡ Err (Disk PastEnd) → ⊥
-    by On g = at (header_of (v.size - 33) (unpacked (v.face 0))) refl g
-    by (Dark c) g = let z : ◌≡◌ {A = ℕ} 0 1 = cc in omega arith
-    by (Dead c) g = let z : ◌≡◌ {A = ℕ} 0 1 = cc in omega arith
-
-    go : (b : Bool) → cond b (look_answer_by (found v.size v.face a) st) (Err UnfitSize) ≡ Err (Disk PastEnd) → ⊥
-    go true g = by st g
-    go false g = let z : ◌≡◌ {A = ℕ} 0 1 = cc in omega arith
+never_past v a On e = grind (arith, nat_tests)
+never_past v a (Dark c) e = grind (arith, nat_tests)
+never_past v a (Dead c) e = grind (arith, nat_tests)
 
 pub look_inside : {S : Type 0} (R : Reader.Ghosts S) (s t : S) (a : ℕ) (x : LookAnswer Content) → Looks (met R) s a x t → R.sound s → x ≡ Err (Disk PastEnd) → ⊥
 look_inside R s t a x l snd e = never_past (R.view s) a (R.view t).state (sym (look_means R s t a x l snd).1.answer ∙ e)
 
 -- faces that keep below the size show the same
 pub answer_keeps : (v w : View) (a : ℕ) (st : StateValues) → Kept v w → FacesKeep v w → look_answer w a st ≡ look_answer v a st
-answer_keeps v w a st kept faces = ap at kept.size ∙ go (fit v.size) refl
-  where
-    at : ℕ → LookAnswer Content
-    at size = cond (fit size) (look_answer_by (found size w.face a) st) (Err UnfitSize)
-
-    block : (h : HeaderValues) (b : Bool) → ltb a h.n ≡ b → length h.log ≤ 32 → h.n ≡ v.size - 33 →
-        cond b (Ok (w.face (block_for h.log a))) (Err PastPlan) ≡ cond b (Ok (v.face (block_for h.log a))) (Err PastPlan)
-    block h true l few n = ap (λ (b : Content). Ok b) (faces (block_for h.log a) (block_within h.log a h.n v.size few (ltb-true a h.n l) n))
-    block h false l few n = refl
-
-    header : (h : LookAnswer HeaderValues) → header_of (v.size - 33) (unpacked (v.face 0)) ≡ h → at_address h w.face a ≡ at_address h v.face a
-    header (Ok h) e = let is = header_is (v.size - 33) (unpacked (v.face 0)) h e in block h (ltb a h.n) refl (log_fits (v.face 0) h is.0) is.1
-    header (Err x) e = refl
-
-    go : (b : Bool) → fit v.size ≡ b → cond b (look_answer_by (found v.size w.face a) st) (Err UnfitSize) ≡ cond b (look_answer_by (found v.size v.face a) st) (Err UnfitSize)
-    go true f =
-        let big = leb-true 34 v.size (and_parts _ _ f).0 in
-        let first : header_of (v.size - 33) (unpacked (w.face 0)) ≡ header_of (v.size - 33) (unpacked (v.face 0)) = ap (λ (b : Content). header_of (v.size - 33) (unpacked b)) (faces 0 (omega arith)) in
-        ap (λ (x : LookAnswer Content). look_answer_by x st) (ap (λ (h : LookAnswer HeaderValues). at_address h w.face a) first ∙ header _ refl)
-    go false f = refl
+answer_keeps v w a st kept faces =
+    let shown : (h : HeaderValues) → unpacked (v.face 0) ≡ Some h → a < h.n → h.n ≡ v.size - 33 → w.face (block_for h.log a) ≡ v.face (block_for h.log a) =
+    λ h u lt n. faces (block_for h.log a) (block_within h.log a h.n v.size (log_fits (v.face 0) h u) lt n) in
+    grind (arith, nat_tests, faces 0, shown)
 
 -- a done answer is given by a reader that is on
 pub answer_on : (v : View) (a : ℕ) (st : StateValues) (b : Content) → Ok b ≡ look_answer v a st → st ≡ On
-answer_on v a st b e = go (fit v.size) st e
-  where
-    go : (f : Bool) (st : StateValues) → Ok b ≡ cond f (look_answer_by (found v.size v.face a) st) (Err UnfitSize) → st ≡ On
-    go true On e = refl
-    go true (Dark c) e = absurd (let z : ◌≡◌ {A = ℕ} 0 1 = cc in omega arith)
-    go true (Dead c) e = absurd (let z : ◌≡◌ {A = ℕ} 0 1 = cc in omega arith)
-    go false st e = absurd (let z : ◌≡◌ {A = ℕ} 0 1 = cc in omega arith)
+answer_on v a On b e = refl
+answer_on v a (Dark c) b e = grind (arith, nat_tests)
+answer_on v a (Dead c) b e = grind (arith, nat_tests)

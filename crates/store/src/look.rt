@@ -20,16 +20,7 @@ pub fn look<R: Reader>(reader: &mut R, address: u16, place: &mut Block) -> Resul
     ensures place { Untouched result place.old place.new }
     ensures inside { R.Reader.sound reader.old → looked result place.new ≢ Err (Disk PastEnd) }
 {
-    look_up(reader, address, place)
-}
-
-fn look_up<R: Reader>(reader: &mut R, address: u16, place: &mut Block) -> Result<(), LookRefusal>
-    ensures steps { Looks (met R.Reader) reader.old address (looked result place.new) reader.new }
-    ensures place { Untouched result place.old place.new }
-{
-    let Some(n) = plan_size(reader.size()) else {
-        return Err(LookRefusal::UnfitSize);
-    };
+    let n = plan_size(reader.size()).ok_or(LookRefusal::UnfitSize)?;
     let header = read_header(reader, n)?;
     if address >= n {
         return Err(LookRefusal::PastPlan);
@@ -44,10 +35,9 @@ pub fn plan_size(size: u16) -> Option<u16>
     ensures value { result ≡ plan_of size }
     ensures examples { SizeExamples }
 {
-    if size >= 34 && size <= 4129 {
-        Some(size - FIRST_HOME)
-    } else {
-        None
+    match size {
+        34..=4129 => Some(size - FIRST_HOME),
+        _ => None,
     }
 }
 
@@ -57,11 +47,7 @@ pub fn read_header<R: Reader>(reader: &mut R, n: u16) -> Result<Header, LookRefu
 {
     let mut bytes = [0u8; BLOCK_BYTES];
     reader.read(0, &mut bytes)?;
-    let Some(header) = Header::unpack(&bytes) else {
-        return Err(LookRefusal::NoHeader);
-    };
-    if header.n() != n {
-        return Err(LookRefusal::NoHeader);
-    }
-    Ok(header)
+    Header::unpack(&bytes)
+        .filter(|header| header.n() == n)
+        .ok_or(LookRefusal::NoHeader)
 }
