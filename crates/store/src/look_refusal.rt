@@ -1,9 +1,10 @@
 // The answers of look that are not done.
-ghost use Rattle.std.specs.Prelude.{◌≡◌};
+ghost use Rattle.std.specs.Prelude.{◌≡◌, Some};
 ghost use Rattle.store.specs.LookValues.{look_refusal_values, look_numbered, look_meaning, LookTellsApart};
 ghost use Rattle.store.specs.declared.look_refusal.LookRefusal.TheVariants.{Disk};
 
 use disks::refusal::Refusal;
+use std::fmt;
 
 #[derive(Clone, Copy, Debug)]
 pub enum LookRefusal {
@@ -29,15 +30,18 @@ impl LookRefusal {
             LookRefusal::PastPlan => 12,
         }
     }
+}
 
-    pub fn meaning(&self) -> &'static str
-        ensures { result.now ≡ look_meaning (look_refusal_values self.now) }
-    {
+// Its meaning in words.
+impl fmt::Display for LookRefusal {
+    ghost output = { λ e. Some (look_meaning (look_refusal_values e)) };
+
+    fn fmt<W: fmt::Write>(&self, f: &mut fmt::Formatter<W>) -> fmt::Result {
         match self {
-            LookRefusal::Disk(e) => e.meaning(),
-            LookRefusal::UnfitSize => "size below 34 or above 4,129 blocks",
-            LookRefusal::NoHeader => "header not well formed or N not size - 33",
-            LookRefusal::PastPlan => "address at or past N",
+            LookRefusal::Disk(e) => e.fmt(f),
+            LookRefusal::UnfitSize => f.write_str("size below 34 or above 4,129 blocks"),
+            LookRefusal::NoHeader => f.write_str("header not well formed or N not size - 33"),
+            LookRefusal::PastPlan => f.write_str("address at or past N"),
         }
     }
 }
