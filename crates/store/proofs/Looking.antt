@@ -2,7 +2,8 @@
 use Rattle.std.proofs.Common.{◌≡◌, ℕ, suc, ◌+◌, ◌-◌, ◌<◌, ◌≤◌, Bool, true, false, ltb, ◌⊎◌, List, [], ◌∷◌, length, Some, None, Ok, Err, MatchBool, Option, sym, refl, ap, ◌∙◌, subst, inl, inr, arith}
 use Rattle.disks.specs.Values.{StateValues, On, Dark, Dead, PastEnd, answer_by}
 use Rattle.disks.specs.Meaning.{View, Content, Shown, Off, Kept, FacesKeep, NoneGained, Unchanged, Means, ReadMeans, ReadOn}
-use Rattle.disks.proofs.Views.{same, on_or_off, kept_then, faces_then, gained_then}
+use Rattle.disks.specs.ImageLaws.{same}
+use Rattle.disks.proofs.Views.{on_or_off, kept_then, faces_then, gained_then}
 use Rattle.disks.specs.declared.reader.Reader
 use Rattle.std.proofs.lemmas.Bool.Decides.{nat_tests}
 use Rattle.std.proofs.lemmas.Bool.{both_ways, and_parts, leb-true, ltb-true, lt-ltb, le-ltb, cond-true, cond-false}
