@@ -1,6 +1,9 @@
 -- The pair's read, write and barrier, step by step, by its sides' own accounts of their calls.
-use Rattle.std.specs.Prelude.{◌≡◌, ℕ, Bool, true, false, Ok, Err, nat_lt}
-use Rattle.disks.specs.Values.{StateValues, On, Dark, Dead, PastEnd, IsDark, IsLost, Answer, answer_by}
+use Rattle.std.specs.Prelude.{◌≡◌, ℕ, Bool, true, false, Ok, Err, Result, nat_lt}
+use Rattle.std.specs.Fn.{Once, FnOnceReturnsAtMut}
+use denote.Ref.{MutBor}
+use Rattle.disks.specs.declared.refusal.Refusal.{Refusal}
+use Rattle.disks.specs.Values.{StateValues, On, Dark, Dead, PastEnd, IsDark, IsLost, Answer, answer_by, answer_values}
 use Rattle.disks.specs.Meaning.{Content, Shown}
 use Rattle.disks.specs.Trails.{answer_under}
 use Rattle.disks.specs.declared.reader.Reader
@@ -36,6 +39,10 @@ Part On call s dark t = (r : Answer Unit) × call r t × (dark ≡ is_dark r)
 Part (Dark c) call s dark t = (r : Answer Unit) × call r t × (dark ≡ is_dark r)
 Part (Dead c) call s dark t = (dark ≡ false) × (t ≡ s)
 
+-- what a closure f does to the side that it is called on
+abbrev pub CallOf : {F S : Type 0} → Once F (MutBor S × Unit {0}) (Result Unit Refusal × (MutBor S × Unit {0})) → F → S → Answer Unit → S → Type 0
+CallOf g f s r t = (x : Result Unit Refusal) × FnOnceReturnsAtMut g f s x t × (r ≡ answer_values x)
+
 -- a write of content b to block k
 abbrev pub WriteOf : {S : Type 0} → Disk.Ghosts S → ℕ → Content → S → Answer Unit → S → Type 0
 WriteOf D k b s r t = D.writes s k b r t
@@ -51,6 +58,15 @@ module _ {A B : Type 0} (R₀ : Reader.Ghosts A) (R₁ : Reader.Ghosts B) where
   abbrev pub Through : (A → Answer Unit → A → Type 0) → (B → Answer Unit → B → Type 0) → Pair A B → Answer Unit → Pair A B → Type 0
   Through call₀ call₁ p r q =
       (q.joined ≡ p.joined) × InTurn call₀ call₁ p.side0 p.side1 q.side0 q.side1 × (r ≡ answer_by tt (view_of R₀ R₁ q).state)
+
+  -- by the state, then both sides in turn
+  abbrev pub Passed : (A → Answer Unit → A → Type 0) → (B → Answer Unit → B → Type 0) → Pair A B → Answer Unit → Pair A B → Type 0
+  Passed call₀ call₁ p r q = IfOn (view_of R₀ R₁ p).state r p q (Through call₀ call₁ p r q)
+
+  -- that, of the closures f₀ and f₁
+  pub record HandedOn {F G : Type 0} (g₀ : Once F (MutBor A × Unit {0}) (Result Unit Refusal × (MutBor A × Unit {0}))) (f₀ : F)
+      (g₁ : Once G (MutBor B × Unit {0}) (Result Unit Refusal × (MutBor B × Unit {0}))) (f₁ : G) (p : Pair A B) (r : Answer Unit) (q : Pair A B) : Type 0 where
+    pub passed : Passed (CallOf g₀ f₀) (CallOf g₁ f₁) p r q
 
   -- side 1 is read, and its answer is the pair's
   abbrev pub ReadsSide1 : Pair A B → ℕ → Shown → Pair A B → Type 0
@@ -84,8 +100,8 @@ module _ {A B : Type 0} (R₀ : Reader.Ghosts A) (D₀ : Disk.Ghosts A) (R₁ : 
   abbrev pub Writes : Pair A B → ℕ → Content → Answer Unit → Pair A B → Type 0
   Writes p k b r q =
       Within k (view_of R₀ R₁ p).size r p q
-      (IfOn (view_of R₀ R₁ p).state r p q (Through R₀ R₁ (WriteOf D₀ k b) (WriteOf D₁ k b) p r q))
+      (Passed R₀ R₁ (WriteOf D₀ k b) (WriteOf D₁ k b) p r q)
 
   -- a barrier: by the state, then both sides in turn
   abbrev pub Barriers : Pair A B → Answer Unit → Pair A B → Type 0
-  Barriers p r q = IfOn (view_of R₀ R₁ p).state r p q (Through R₀ R₁ D₀.barriers D₁.barriers p r q)
+  Barriers = Passed R₀ R₁ D₀.barriers D₁.barriers

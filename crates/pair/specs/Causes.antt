@@ -1,14 +1,14 @@
 -- Lemmas: a pair is proper, its height, when it is dead, and where its faces are candidates.
-use Rattle.std.specs.Prelude.{◌≡◌, ℕ, zero, suc, ◌+◌, ◌≤◌, max, Bool, true, false, ◌&&◌, ◌⊎◌, List, ◌∷◌, length, take, slice_index, refl}
-use Rattle.std.proofs.Common.{sym, ap₂, subst, ◌∙◌, inl, inr, ⊎_elim, arith, take_all}
+use Rattle.std.specs.Prelude.{◌≡◌, ℕ, zero, suc, ◌+◌, ◌≤◌, max, Bool, true, false, ◌&&◌, List, ◌∷◌, length, take, slice_index, refl}
+use Rattle.std.proofs.Common.{sym, ap₂, subst, ◌∙◌, ⊎_elim, arith, take_all}
 use Rattle.disks.specs.Values.{CauseValues, StateValues, On, Dark, Dead}
-use Rattle.disks.specs.Meaning.{View, Content, Whole, CauseFits, StateFits, Proper, ProperLaw, Living}
+use Rattle.disks.specs.Meaning.{View, Content, Whole, CauseFits, StateFits, Proper, ProperLaw}
 use Rattle.disks.specs.Trails.{cause_under}
 use Rattle.disks.specs.Piles.{is_dead, lost}
 use Rattle.disks.specs.declared.reader.Reader
 use Rattle.disks.specs.declared.disk.Disk
 use Rattle.disks.proofs.Losing.{lost_exactly}
-use Rattle.pair.specs.Sides.{if_joined, state_of, first_living, pair_height, view_of, Sound, bottoms_of, FacesStandToo, OneHigher, DeadIfBoth, DeadWithBottoms}
+use Rattle.pair.specs.Sides.{if_joined, state_of, first_living, pair_height, view_of, Sound, bottoms_of, DeadIfBoth, DeadWithBottoms}
 
 side_at : (i : ℕ) (t : List ℕ) → i ≤ 1 → ((j : ℕ) → slice_index t j ≤ 1) → (j : ℕ) → slice_index (i ∷ t) j ≤ 1
 side_at i t i≤ f zero = i≤
@@ -52,14 +52,6 @@ whole On x y a b = a
 whole (Dark c) x y a b = a
 whole (Dead c) x y a b = b
 
--- in a living pair, what holds of the living sides' faces holds of the pair's
-stands : (j : Bool) (s t : StateValues) (x y : Content) (C D : Content → Type 0) → (Living s → C x) → (Living t → D y) → Living (state_of j s t) → (Living s × C (first_living s x y)) ⊎ (Living t × D (first_living s x y))
-stands j On t x y C D f g l = inl (tt, f tt)
-stands j (Dark c) t x y C D f g l = inl (tt, f tt)
-stands j (Dead c) On x y C D f g l = inr (tt, g tt)
-stands j (Dead c) (Dark d) x y C D f g l = inr (tt, g tt)
-stands j (Dead c) (Dead d) x y C D f g l = absurd l
-
 if_joined_dead : (j : Bool) → is_dead (if_joined j) ≡ false
 if_joined_dead true = refl
 if_joined_dead false = refl
@@ -85,16 +77,8 @@ module _ {A B : Type 0} (R₀ : Reader.Ghosts A) (R₁ : Reader.Ghosts B) where
         candidates = λ k c lt x. ⊎_elim (λ y. a.candidates k c lt y.1) (λ y. b.candidates k c (omega (arith, snd.fit.sizes)) y.1) x;
       }
 
-  pub one_higher : OneHigher R₀ R₁
-  one_higher p snd = omega (arith, snd.fit.low)
-
   pub dead_if_both : DeadIfBoth R₀ R₁
   dead_if_both p = dead_both p.joined (R₀.view p.side0).state (R₁.view p.side1).state
-
-  pub faces_stand_too : FacesStandToo R₀ R₁
-  faces_stand_too f g p snd l k lt =
-      let v : View = R₀.view p.side0 in let w : View = R₁.view p.side1 in
-      stands p.joined v.state w.state (v.face k) (w.face k) (v.candidate k) (w.candidate k) (λ u. f p.side0 snd.side0 u k lt) (λ u. g p.side1 snd.side1 u k (omega (arith, snd.fit.sizes))) l
 
 module _ {A B : Type 0} (R₀ : Reader.Ghosts A) (D₀ : Disk.Ghosts A) (R₁ : Reader.Ghosts B) (D₁ : Disk.Ghosts B)
     (losing₀ : (s : A) → R₀.sound s → is_dead (R₀.view s).state ≡ lost (D₀.bottoms s))

@@ -1,6 +1,7 @@
 pub mod Sides
 pub mod Making
 pub mod Calls
+pub mod Passing
 pub mod Restarts
 pub mod Causes
 pub mod Reading

@@ -21,6 +21,10 @@ abbrev pub PairTellsApart : Type 0
 PairTellsApart = (x y : PairRefusal) → pair_numbered x ≡ pair_numbered y → x ≡ y
 
 module _ {A B : Type 0} (R₀ : Reader.Ghosts A) (R₁ : Reader.Ghosts B) where
+  -- whether the sides make a pair: first by the sizes, then by the heights
+  abbrev pub fit_of : A → B → Result Unit PairRefusal
+  fit_of a b = cond ((R₀.view a).size == (R₁.view b).size) (cond (nat_lt (max (R₀.view a).height (R₁.view b).height) 8) (Ok tt) (Err TooHigh)) (Err UnequalSizes)
+
   -- a pair that is not joined; or first by the sizes, then by the heights, a refusal with both sides as they were
   abbrev pub made_of : A → B → Result (Pair A B) (Unpaired A B)
   made_of a b =

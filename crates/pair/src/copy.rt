@@ -7,7 +7,7 @@ use disks::reader::Reader;
 use disks::refusal::Refusal;
 
 // Why a copy stopped before its end.
-#[derive(Clone, Copy)]
+#[derive(Clone, Copy, Debug, PartialEq, Eq)]
 pub(crate) enum CopyStop {
     // The disk that was read died.
     SourceDied,
@@ -20,11 +20,8 @@ pub(crate) fn copy_over<A: Disk, B: Disk>(from: &mut A, to: &mut B)
     ensures { CopiesOver A.Reader B.Disk.own from.old to.old from.new to.new }
 {
     let blocks = from.size();
-    match copy_blocks(from, to, blocks) {
-        Err(CopyStop::Ended) => {}
-        _ => {
-            let _ = to.barrier();
-        }
+    if copy_blocks(from, to, blocks) != Err(CopyStop::Ended) {
+        let _ = to.barrier();
     }
 }
 
@@ -46,12 +43,9 @@ fn copy_block<A: Reader, B: Disk>(
 ) -> Result<(), CopyStop>
     ensures { CopiesOne A.Reader B.Disk.own block from.old to.old result from.new to.new }
 {
-    match from.read(block, place) {
-        Ok(()) => match to.write(block, place) {
-            Ok(()) => Ok(()),
-            Err(_) => Err(CopyStop::Ended),
-        },
-        Err(Refusal::Lost(_)) => Err(CopyStop::SourceDied),
-        Err(_) => Err(CopyStop::Ended),
-    }
+    from.read(block, place).map_err(|refusal| match refusal {
+        Refusal::Lost(_) => CopyStop::SourceDied,
+        _ => CopyStop::Ended,
+    })?;
+    to.write(block, place).map_err(|_| CopyStop::Ended)
 }

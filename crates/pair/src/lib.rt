@@ -4,5 +4,3 @@
 mod copy;
 pub mod pair;
 pub mod refusal;
-mod side;
-mod state;

@@ -7,7 +7,6 @@ ghost use Rattle.pair.specs.Writing.{pair_writing, pair_flushing};
 ghost use Rattle.pair.specs.Restarting.{pair_restarting};
 ghost use Rattle.pair.specs.Reading.{pair_reading};
 
-use crate::state::pair_state;
 use disks::block::Block;
 use disks::disk::Disk;
 use disks::reader::Reader;
@@ -17,6 +16,7 @@ use disks::state::State;
 mod calls;
 mod making;
 mod restart;
+mod state;
 
 #[derive(Drop)]
 pub struct Pair<A, B> {
@@ -42,11 +42,15 @@ impl<A: Disk, B: Disk> Reader for Pair<A, B> {
     }
 
     fn state(&self) -> State {
-        pair_state(self.joined, self.side0.state(), self.side1.state())
+        self.state_if(self.joined)
     }
 
     fn read(&mut self, block: u16, place: &mut Block) -> Result<(), Refusal> {
-        self.read_by_steps(block, place)
+        if block >= self.size() {
+            return Err(Refusal::PastEnd);
+        }
+        self.state().answer()?;
+        self.read_living(block, place)
     }
 }
 
@@ -72,14 +76,27 @@ impl<A: Disk, B: Disk> Disk for Pair<A, B> {
     ghost losing = { pair_losing A.Reader A.Disk.own B.Reader B.Disk.own A.Disk.losing B.Disk.losing };
 
     fn write(&mut self, block: u16, content: &Block) -> Result<(), Refusal> {
-        self.write_by_steps(block, content)
+        if block >= self.size() {
+            return Err(Refusal::PastEnd);
+        }
+        self.in_turn(
+            |side0| side0.write(block, content),
+            |side1| side1.write(block, content),
+        )
     }
 
     fn barrier(&mut self) -> Result<(), Refusal> {
-        self.barrier_by_steps()
+        self.in_turn(|side0| side0.barrier(), |side1| side1.barrier())
     }
 
+    // The sides' states say all: whether the copy is complete, and with it whether the pair is joined.
     fn restart(&mut self) -> Result<(), Refusal> {
-        self.restart_by_steps()
+        if let State::Dead(cause) = self.state() {
+            return Err(Refusal::Lost(cause));
+        }
+        self.restart_sides();
+        let after = self.state_if(true);
+        self.joined |= matches!(after, State::On);
+        after.answer()
     }
 }

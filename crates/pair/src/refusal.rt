@@ -1,8 +1,10 @@
 // The answers of a pair's making that are not done.
 ghost use Rattle.std.specs.Prelude.{◌≡◌};
-ghost use Rattle.pair.specs.Making.{pair_numbered, pair_meaning, PairTellsApart};
+ghost use Rattle.pair.specs.Making.{pair_numbered, PairTellsApart};
 
-#[derive(Clone, Copy, Debug)]
+use std::fmt;
+
+#[derive(Clone, Copy, Debug, PartialEq, Eq)]
 pub enum PairRefusal {
     // 4: the sides have unequal sizes.
     UnequalSizes,
@@ -28,13 +30,18 @@ impl PairRefusal {
             PairRefusal::TooHigh => 5,
         }
     }
+}
 
-    pub fn meaning(&self) -> &'static str
-        ensures { result.now ≡ pair_meaning self.now }
-    {
-        match self {
+impl fmt::Display for PairRefusal {
+    ghost use Rattle.std.specs.Prelude.{Some};
+    ghost use Rattle.pair.specs.Making.{pair_meaning};
+
+    ghost output = { λ x. Some (pair_meaning x) };
+
+    fn fmt<W: fmt::Write>(&self, f: &mut fmt::Formatter<W>) -> fmt::Result {
+        f.write_str(match self {
             PairRefusal::UnequalSizes => "pair of unequal sizes",
             PairRefusal::TooHigh => "a side of height 8 or more",
-        }
+        })
     }
 }

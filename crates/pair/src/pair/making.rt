@@ -2,7 +2,7 @@
 ghost use Rattle.std.specs.Prelude.{◌≡◌, IfOk};
 ghost use Rattle.disks.specs.Piles.{LostExactly};
 ghost use Rattle.pair.specs.Sides.{Sound, OneHigher, DeadIfBoth, DeadWithBottoms, FacesStandToo};
-ghost use Rattle.pair.specs.Making.{made_of};
+ghost use Rattle.pair.specs.Making.{fit_of, made_of};
 
 use crate::pair::Pair;
 use crate::refusal::{PairRefusal, Unpaired};
@@ -11,6 +11,7 @@ use disks::reader::Reader;
 
 impl<A: Disk, B: Disk> Pair<A, B> {
     // A new pair is not joined: it is dark, or dead, until a restart of it is done.
+    #[tactic(auto, using(crate::specs::Causes::dead_with_bottoms, disks::proofs::Losing::lost_exactly))]
     pub fn new(side0: A, side1: B) -> Result<Pair<A, B>, Unpaired<A, B>>
         ensures value { result ≡ made_of A.Reader B.Reader side0 side1 }
         ensures sound { A.Reader.sound side0 → B.Reader.sound side1 → IfOk result (λ p. Sound A.Reader B.Reader p) }
@@ -20,32 +21,30 @@ impl<A: Disk, B: Disk> Pair<A, B> {
         ensures lost { LostExactly }
         ensures stand { FacesStandToo A.Reader B.Reader }
     {
-        Pair::make(side0, side1)
-    }
-
-    // The making without the theorems that hold of every pair.
-    fn make(side0: A, side1: B) -> Result<Pair<A, B>, Unpaired<A, B>>
-        ensures value { result ≡ made_of A.Reader B.Reader side0 side1 }
-        ensures sound { A.Reader.sound side0 → B.Reader.sound side1 → IfOk result (λ p. Sound A.Reader B.Reader p) }
-    {
-        if side0.size() != side1.size() {
-            Err(Unpaired {
-                refusal: PairRefusal::UnequalSizes,
-                side0,
-                side1,
-            })
-        } else if side0.height().max(side1.height()) >= 8 {
-            Err(Unpaired {
-                refusal: PairRefusal::TooHigh,
-                side0,
-                side1,
-            })
-        } else {
-            Ok(Pair {
+        match fit(&side0, &side1) {
+            Ok(()) => Ok(Pair {
                 side0,
                 side1,
                 joined: false,
-            })
+            }),
+            Err(refusal) => Err(Unpaired {
+                refusal,
+                side0,
+                side1,
+            }),
         }
+    }
+}
+
+// Whether the sides make a pair: first by their sizes, then by their heights.
+fn fit<A: Reader, B: Reader>(side0: &A, side1: &B) -> Result<(), PairRefusal>
+    ensures { result ≡ fit_of A.Reader B.Reader side0.now side1.now }
+{
+    if side0.size() != side1.size() {
+        Err(PairRefusal::UnequalSizes)
+    } else if side0.height().max(side1.height()) >= 8 {
+        Err(PairRefusal::TooHigh)
+    } else {
+        Ok(())
     }
 }
