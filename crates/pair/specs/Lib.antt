@@ -5,11 +5,7 @@ pub mod Passing
 pub mod Restarts
 pub mod Causes
 pub mod Reading
-pub mod States
 pub mod Refusing
-pub mod Parts
-pub mod Carrying
-pub mod Through
 pub mod Writing
 pub mod Copying
 pub mod Restarting

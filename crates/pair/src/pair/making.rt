@@ -11,7 +11,7 @@ use disks::reader::Reader;
 
 impl<A: Disk, B: Disk> Pair<A, B> {
     // A new pair is not joined: it is dark, or dead, until a restart of it is done.
-    #[tactic(auto, using(crate::specs::Causes::dead_with_bottoms, disks::proofs::Losing::lost_exactly))]
+    #[tactic(auto, using(disks::proofs::Losing::lost_exactly))]
     pub fn new(side0: A, side1: B) -> Result<Pair<A, B>, Unpaired<A, B>>
         ensures value { result ≡ made_of A.Reader B.Reader side0 side1 }
         ensures sound { A.Reader.sound side0 → B.Reader.sound side1 → IfOk result (λ p. Sound A.Reader B.Reader p) }
