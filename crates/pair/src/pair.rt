@@ -26,12 +26,16 @@ pub struct Pair<A, B> {
     joined: bool,
 }
 
-impl<A: Disk, B: Disk> Reader for Pair<A, B> {
+impl<A: Reader, B: Reader> Reader for Pair<A, B> {
     ghost view = { view_of A.Reader B.Reader };
 
     ghost sound = { Sound A.Reader B.Reader };
 
     ghost reads = { Reads A.Reader B.Reader };
+
+    ghost proper = { pair_proper A.Reader.own B.Reader.own A.Reader.proper B.Reader.proper };
+
+    ghost reading = { pair_reading A.Reader.own B.Reader.own A.Reader.reading B.Reader.reading };
 
     fn size(&self) -> u16 {
         self.side0.size()
@@ -63,17 +67,13 @@ impl<A: Disk, B: Disk> Disk for Pair<A, B> {
 
     ghost bottoms = { bottoms_of A.Disk.own B.Disk.own };
 
-    ghost proper = { pair_proper A.Reader B.Reader A.Disk.proper B.Disk.proper };
+    ghost writing = { pair_writing A.Reader.own A.Disk.own B.Reader.own B.Disk.own A.Disk.writing B.Disk.writing };
 
-    ghost reading = { pair_reading A.Reader B.Reader A.Disk.reading B.Disk.reading };
+    ghost flushing = { pair_flushing A.Reader.own A.Disk.own B.Reader.own B.Disk.own A.Disk.flushing B.Disk.flushing };
 
-    ghost writing = { pair_writing A.Reader A.Disk.own B.Reader B.Disk.own A.Disk.writing B.Disk.writing };
+    ghost restarting = { pair_restarting A.Reader.own A.Disk.own B.Reader.own B.Disk.own A.Reader.proper A.Reader.reading B.Disk.writing B.Disk.flushing A.Disk.restarting B.Disk.restarting };
 
-    ghost flushing = { pair_flushing A.Reader A.Disk.own B.Reader B.Disk.own A.Disk.flushing B.Disk.flushing };
-
-    ghost restarting = { pair_restarting A.Reader A.Disk.own B.Reader B.Disk.own A.Disk.proper A.Disk.reading B.Disk.writing B.Disk.flushing A.Disk.restarting B.Disk.restarting };
-
-    ghost losing = { pair_losing A.Reader A.Disk.own B.Reader B.Disk.own A.Disk.losing B.Disk.losing };
+    ghost losing = { pair_losing A.Reader.own A.Disk.own B.Reader.own B.Disk.own A.Disk.losing B.Disk.losing };
 
     fn write(&mut self, block: u16, content: &Block) -> Result<(), Refusal> {
         if block >= self.size() {

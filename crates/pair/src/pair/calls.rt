@@ -12,7 +12,7 @@ use disks::refusal::Refusal;
 use disks::side::Side;
 use disks::state::State;
 
-impl<A: Disk, B: Disk> Pair<A, B> {
+impl<A: Reader, B: Reader> Pair<A, B> {
     // Side 0's block; side 1's if side 0 is dead, or dies of the read.
     pub(super) fn read_living(&mut self, block: u16, place: &mut Block) -> Result<(), Refusal>
         ensures joined { self.new.joined ≡ self.old.joined }
@@ -29,7 +29,9 @@ impl<A: Disk, B: Disk> Pair<A, B> {
             .read(block, place)
             .map_err(|refusal| refusal.under(Side::One))
     }
+}
 
+impl<A: Disk, B: Disk> Pair<A, B> {
     // Calls side 0, then, unless that answered dark, side 1. The answer goes by the state that the pair has then.
     pub(super) fn in_turn<
         F: FnOnce(&mut A) -> Result<(), Refusal>,
