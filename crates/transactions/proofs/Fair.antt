@@ -13,30 +13,22 @@ use Rattle.transactions.specs.DiskWork.{Work, IfDone, ◌then◌, nothing, putti
 
 -- a done answer is given by a disk that is on, and none goes past the end
 pub done_on : {X : Type 0} (x y : X) (st : StateValues) → Ok y ≡ answer_by x st → st ≡ On
-done_on x y On e = refl
-done_on x y (Dark c) e = absurd (let z : ◌≡◌ {A = ℕ} 0 1 = cc in omega arith)
-done_on x y (Dead c) e = absurd (let z : ◌≡◌ {A = ℕ} 0 1 = cc in omega arith)
+done_on x y st e = grind arith
 
 pub never_past : {X : Type 0} (x : X) (st : StateValues) → Err PastEnd ≡ answer_by x st → ⊥
-never_past x On e = let z : ◌≡◌ {A = ℕ} 0 1 = cc in omega arith
-never_past x (Dark c) e = let z : ◌≡◌ {A = ℕ} 0 1 = cc in omega arith
-never_past x (Dead c) e = let z : ◌≡◌ {A = ℕ} 0 1 = cc in omega arith
+never_past x st e = grind arith
 
 pub shown_is : (x y : Content) (st : StateValues) → Ok y ≡ answer_by x st → y ≡ x
-shown_is x y On e = cc
-shown_is x y (Dark c) e = absurd (let z : ◌≡◌ {A = ℕ} 0 1 = cc in omega arith)
-shown_is x y (Dead c) e = absurd (let z : ◌≡◌ {A = ℕ} 0 1 = cc in omega arith)
+shown_is x y st e = grind arith
 
 -- a refusal stays the same, whatever a done answer would carry
 refused_by : {X Y : Type 0} (x : X) (y : Y) (st : StateValues) (e : RefusalValues) → Err e ≡ answer_by x st → Err e ≡ answer_by y st
-refused_by x y On e h = absurd (let z : ◌≡◌ {A = ℕ} 0 1 = cc in omega arith)
-refused_by x y (Dark c) e h = let z : ◌≡◌ {A = Answer _} (Err e) (answer_by x (Dark c)) = h in cc
-refused_by x y (Dead c) e h = let z : ◌≡◌ {A = Answer _} (Err e) (answer_by x (Dead c)) = h in cc
+refused_by x y st e h = grind arith
 
 zeros_whole : Whole (replicate 512 0)
 zeros_whole = record {
   long = length-replicate {A = ℕ} 512 0;
-  bytes = λ i. elim (cases_lt i 512) [ inl h ↦ omega (arith, get_or-replicate {A = ℕ} 512 i 0 0 h) | inr h ↦ omega (arith, get_or_past {X = ℕ} (replicate 512 0) i 0 (rw length-replicate h)) ];
+  bytes = λ i. elim (cases_lt i 512) [ inl h ↦ rw (get_or-replicate {A = ℕ} 512 i 0 0 h) (omega arith) | inr h ↦ rw (get_or_past {X = ℕ} (replicate 512 0) i 0 (rw length-replicate h)) (omega arith) ];
 }
 
 -- the laws of a disk

@@ -1,5 +1,5 @@
 -- What recovery leaves of a disk that keeps the meaning of one.
-use Rattle.std.proofs.Common.{◌≡◌, ℕ, ◌+◌, Bool, true, false, cond, eqb, Some, None, Ok, Err, Option, sym, refl, ap, ◌∙◌, subst, arith}
+use Rattle.std.proofs.Common.{◌≡◌, ℕ, ◌+◌, Ok, Err, Option, sym, refl, ap, ◌∙◌, subst, arith}
 use Rattle.disks.specs.Values.{On, RefusalValues, PastEnd, Answer}
 use Rattle.disks.specs.Meaning.{Content, Whole, Shown}
 use Rattle.disks.specs.declared.reader.Reader
@@ -15,12 +15,7 @@ use Rattle.transactions.proofs.Fair.{Lawful, Fair, done_on, shown_is, never_past
 
 -- a header that is not accepted
 header_refused : (n : ℕ) (o : Option HeaderValues) (e : look.LookRefusalValues) → header_of n o ≡ Err e → e ≡ look.NoHeader
-header_refused n None e h = cc
-header_refused n (Some k) e h = go (eqb k.n n) h
-  where
-    go : (t : Bool) → cond t (Ok k) (Err look.NoHeader) ≡ Err e → e ≡ look.NoHeader
-    go true h = absurd (let z : ◌≡◌ {A = ℕ} 0 1 = cc in omega arith)
-    go false h = cc
+header_refused n o e h = grind arith
 
 module _ {D : Type 0} (R : Reader.Ghosts D) (W : Disk.Ghosts D) (laws : Lawful R W) (n : ℕ) where
   pub record Recovered (x : StoreAnswer HeaderValues) (t : D) : Type 0 where
@@ -35,7 +30,7 @@ module _ {D : Type 0} (R : Reader.Ghosts D) (W : Disk.Ghosts D) (laws : Lawful R
       subst (λ (u : D). Recovered x u) (sym stays) (record {
         sound = f.sound;
         size = f.size;
-        done = λ h q. absurd (let z : ◌≡◌ {A = ℕ} 0 1 = cc in omega arith);
+        done = λ h q. cc;
         inside = λ q. never_past y (R.view m).state (let p : e ≡ PastEnd = cc in sym (ap (λ (z : RefusalValues). Err z) p) ∙ f.answer);
       })
 
@@ -45,7 +40,7 @@ module _ {D : Type 0} (R : Reader.Ghosts D) (W : Disk.Ghosts D) (laws : Lawful R
     sound = f.sound;
     size = f.size;
     done = λ k q. (done_on tt u (R.view t).state f.answer, (let z : ◌≡◌ {A = StoreAnswer HeaderValues} (Ok k) (Ok (empty h.n)) = sym q ∙ is in let w : k ≡ empty h.n = cc in w ∙ ap empty e));
-    inside = λ q. let z : ◌≡◌ {A = ℕ} 0 1 = cc in omega arith;
+    inside = λ q. cc;
   }
   by_work h (Err y) x t e f is = stopped tt y x t t f is refl
 
@@ -61,8 +56,8 @@ module _ {D : Type 0} (R : Reader.Ghosts D) (W : Disk.Ghosts D) (laws : Lawful R
         subst (λ (u : D). Recovered x u) (sym w.1) (record {
           sound = snd;
           size = sz;
-          done = λ h q. absurd (let z : ◌≡◌ {A = ℕ} 0 1 = cc in omega arith);
-          inside = λ q. let p : Err (from_look look.NoHeader) ≡ Err (Disk PastEnd) = sym (ap (λ (y : look.LookRefusalValues). Err (from_look y)) none) ∙ sym w.0 ∙ q in let z : ◌≡◌ {A = ℕ} 0 1 = cc in omega arith;
+          done = λ h q. cc;
+          inside = λ q. let p : Err (from_look look.NoHeader) ≡ Err (Disk PastEnd) = sym (ap (λ (y : look.LookRefusalValues). Err (from_look y)) none) ∙ sym w.0 ∙ q in cc;
         })
 
   by_shown : (m l t : D) (x : StoreAnswer HeaderValues) (y : Shown) → Fair R n ((R.view m).face 0) y l → Whole ((R.view m).face 0) →

@@ -1,12 +1,14 @@
 -- Where a write goes, by the table of the code.
-use Rattle.std.proofs.Common.{◌≡◌, ℕ, suc, ◌+◌, ◌<◌, ◌≤◌, Bool, true, false, cond, not, ◌||◌, eqb, leb, ◌⊎◌, List, [], ◌∷◌, ◌++◌, length, take, drop, is_some, Some, None, Option, unwrap_or, sym, refl, ap, ◌∙◌, inl, inr, arith}
+use Rattle.std.proofs.Common.{◌≡◌, ℕ, suc, ◌+◌, ◌<◌, ◌≤◌, Bool, true, false, cond, ◌||◌, eqb, ◌⊎◌, List, [], ◌∷◌, ◌++◌, length, take, drop, Some, None, Option, unwrap_or, nat_lt, sym, refl, ap, ◌∙◌, inl, inr, arith}
 use Rattle.std.proofs.lemmas.List.{length-take-le, take-append-drop, append_assoc, take_at, drop_at}
-use Rattle.std.proofs.lemmas.Bool.{cases_Bool, cond-true, cond-false, both_ways, and_from, and_left, and_right, not_from_true, not_from_false, le-leb, lt-leb, true≢false}
+use Rattle.std.proofs.lemmas.Bool.{cases_Bool, cond-true, cond-false}
 use Rattle.std.proofs.lemmas.Bool.Decides.{nat_tests}
+use Rattle.std.specs.Bool.{then_some}
+use Rattle.std.specs.Option.{MatchOption}
 use Rattle.store.specs.Layout.{HeaderValues, has_room, with_address}
 use Rattle.store.specs.Log.{newest}
 use Rattle.store.proofs.Looking.{newest_within}
-use Rattle.transactions.specs.Stores.{StoreValues, at, member, full, write_block, noting}
+use Rattle.transactions.specs.Stores.{StoreValues, at, member}
 use Rattle.transactions.specs.Slots.{open_slot, Notes}
 
 newest_append : (k : ℕ) (xs ys : List ℕ) (a d : ℕ) → newest k (xs ++ ys) a d ≡ newest (k + length xs) ys a (newest k xs a d)
@@ -18,15 +20,11 @@ newest_append k (x ∷ xs) ys a d =
 -- an address that is not in the list
 newest_miss : (k : ℕ) (ys : List ℕ) (a d : ℕ) → member a ys ≡ false → newest k ys a d ≡ d
 newest_miss k [] a d m = refl
-newest_miss k (y ∷ ys) a d m = go (eqb y a) m (newest_miss (suc k) ys a d)
-  where
-    go : (b : Bool) → (b || member a ys) ≡ false → (member a ys ≡ false → newest (suc k) ys a d ≡ d) → newest (suc k) ys a (cond b k d) ≡ d
-    go true m more = absurd (true≢false m)
-    go false m more = more m
+newest_miss k (y ∷ ys) a d m = grind (arith, newest_miss (suc k) ys a d)
 
 -- an address that is
 newest_hit : (k : ℕ) (ys : List ℕ) (a d e : ℕ) → member a ys ≡ true → (newest k ys a d ≡ newest k ys a e) × (k ≤ newest k ys a d)
-newest_hit k [] a d e m = absurd (true≢false (sym m))
+newest_hit k [] a d e m = cc
 newest_hit k (y ∷ ys) a d e m = late (eqb y a) (cases_Bool (member a ys)) m (newest_hit (suc k) ys a)
   where
     late : (b : Bool) → (member a ys ≡ true) ⊎ (member a ys ≡ false) → (b || member a ys) ≡ true →
@@ -34,7 +32,7 @@ newest_hit k (y ∷ ys) a d e m = late (eqb y a) (cases_Bool (member a ys)) m (n
         (newest (suc k) ys a (cond b k d) ≡ newest (suc k) ys a (cond b k e)) × (k ≤ newest (suc k) ys a (cond b k d))
     late b (inl h) m hit = let more = hit (cond b k d) (cond b k e) h in (more.0, (let l = more.1 in omega arith))
     late true (inr h) m hit = (refl, (let l = newest_miss (suc k) ys a k h in omega arith))
-    late false (inr h) m hit = absurd (both_ways (member a ys) h m)
+    late false (inr h) m hit = cc
 
 -- the newest slot of the whole table, and that of the open part
 module _ {D : Type 0} (s : StoreValues D) (a : ℕ) (o : Option ℕ) (v : (d : ℕ) → unwrap_or o d ≡ newest 1 (s.logged ++ s.opened) a d) where
@@ -52,59 +50,45 @@ module _ {D : Type 0} (s : StoreValues D) (a : ℕ) (o : Option ℕ) (v : (d : �
   if_not : member a s.opened ≡ false → unwrap_or o 0 ≤ length s.logged
   if_not m = let p = parts 0 in let h = newest_miss (1 + length s.logged) s.opened a (newest 1 s.logged a 0) m in let l = low in omega arith
 
-  pub slot_old : unwrap_or o 0 ≤ length s.logged → None ≡ open_slot s a
-  slot_old le = elim (cases_Bool (member a s.opened)) [
-    | inl m ↦ absurd (let h = (if_open m).1 in omega arith)
-    | inr m ↦ sym (cond-false (member a s.opened) (Some (newest (1 + length s.logged) s.opened a 0)) None m)
-  ]
+  slot_old : unwrap_or o 0 ≤ length s.logged → None ≡ open_slot s a
+  slot_old le = grind (arith, if_open)
 
-  pub slot_open : length s.logged < unwrap_or o 0 → Some (unwrap_or o 0) ≡ open_slot s a
-  slot_open lt = elim (cases_Bool (member a s.opened)) [
-    | inl m ↦ ap (λ (x : ℕ). Some x) (if_open m).0 ∙ sym (cond-true (member a s.opened) (Some (newest (1 + length s.logged) s.opened a 0)) None m)
-    | inr m ↦ absurd (let h = if_not m in omega arith)
-  ]
+  slot_open : length s.logged < unwrap_or o 0 → Some (unwrap_or o 0) ≡ open_slot s a
+  slot_open lt = grind (arith, if_open, if_not)
 
--- what open-slot tells of the open writes
+-- the newest slot of the table, kept if it is past those of the logged part
+pub slot_filtered : {D : Type 0} (s : StoreValues D) (a k : ℕ) → k ≡ length s.logged → (o r : Option ℕ) (P : ℕ → Bool → Type 0) → ((d : ℕ) → unwrap_or o d ≡ newest 1 (s.logged ++ s.opened) a d) →
+    ((x : ℕ) (b : Bool) → P x b → b ≡ nat_lt k x) → MatchOption o (r ≡ None) (λ x. (b : Bool) × P x b × (r ≡ then_some b x)) → r ≡ open_slot s a
+slot_filtered s a k long None r P v test m = m ∙ slot_old s a None v (omega arith)
+slot_filtered s a k long (Some x) r P v test m = m.2 ∙ go m.0 (test x m.0 m.1)
+  where
+    go : (b : Bool) → b ≡ nat_lt k x → then_some b x ≡ open_slot s a
+    go true e = slot_open s a (Some x) v (grind (arith, nat_tests))
+    go false e = slot_old s a (Some x) v (grind (arith, nat_tests))
+
+-- what open_slot tells of the open writes
 module _ {D : Type 0} (s : StoreValues D) (a : ℕ) where
-  open_member : is_some (open_slot s a) ≡ true → member a s.opened ≡ true
-  open_member e = elim (cases_Bool (member a s.opened)) [ inl m ↦ m | inr m ↦ absurd (true≢false (sym e ∙ ap is_some (cond-false (member a s.opened) (Some (newest (1 + length s.logged) s.opened a 0)) None m))) ]
-
-  none_member : is_some (open_slot s a) ≡ false → member a s.opened ≡ false
-  none_member e = elim (cases_Bool (member a s.opened)) [ inr m ↦ m | inl m ↦ absurd (true≢false (sym (ap is_some (cond-true (member a s.opened) (Some (newest (1 + length s.logged) s.opened a 0)) None m)) ∙ e)) ]
-
   -- the open write is written again
-  pub notes_again : (r : Option ℕ) (t : StoreValues D) → r ≡ open_slot s a → is_some r ≡ true → t ≡ s → Notes s a r t
-  notes_again r t e some stays lt = (
-    e ∙ cond-true (member a s.opened) _ _ m ∙ ap (λ (x : ℕ). Some x) (newest_hit (1 + length s.logged) s.opened a 0 (1 + length (s.logged ++ s.opened)) m).0 ∙ sym (cond-false (full s a) None (Some (write_block s a)) free),
-    stays ∙ ap (at s.disk s.phase s.out s.n s.logged) (sym (cond-true (member a s.opened) s.opened (s.opened ++ (a ∷ [])) m)) ∙ sym (cond-false (full s a) s (noting s a) free),
-  )
-    where
-      m : member a s.opened ≡ true
-      m = open_member (ap is_some (sym e) ∙ some)
-
-      free : full s a ≡ false
-      free = and_right (leb 32 (length (s.logged ++ s.opened))) (not (member a s.opened)) (not_from_true (member a s.opened) m)
+  pub notes_again : (k : ℕ) → Some k ≡ open_slot s a → Notes s a (Some k) s
+  notes_again k e lt =
+      let m : member a s.opened ≡ true = grind arith in
+      let hit = (newest_hit (1 + length s.logged) s.opened a 0 (1 + length (s.logged ++ s.opened)) m).0 in
+      (grind arith, grind arith)
 
   -- there is no room for another
-  pub notes_full : (t : StoreValues D) → is_some (open_slot s a) ≡ false → (a < s.n → 32 ≤ length (s.logged ++ s.opened)) → t ≡ s → Notes s a None t
-  notes_full t none long stays lt = (sym (cond-true (full s a) None (Some (write_block s a)) f), stays ∙ sym (cond-true (full s a) s (noting s a) f))
-    where
-      f : full s a ≡ true
-      f = and_from _ _ (le-leb 32 (length (s.logged ++ s.opened)) (long lt)) (not_from_false (member a s.opened) (none_member none))
+  pub notes_full : (t : StoreValues D) → None ≡ open_slot s a → (a < s.n → 32 ≤ length (s.logged ++ s.opened)) → t ≡ s → Notes s a None t
+  notes_full t none long stays lt =
+      let m : member a s.opened ≡ false = grind arith in
+      let few = long lt in
+      (grind (arith, nat_tests), grind (arith, nat_tests))
 
   -- a new open write
-  pub notes_new : (k : ℕ) (t : StoreValues D) → is_some (open_slot s a) ≡ false → length (s.logged ++ s.opened) < 32 → k ≡ 1 + length (s.logged ++ s.opened) →
+  pub notes_new : (k : ℕ) (t : StoreValues D) → None ≡ open_slot s a → length (s.logged ++ s.opened) < 32 → k ≡ 1 + length (s.logged ++ s.opened) →
       t ≡ at s.disk s.phase s.out s.n s.logged (s.opened ++ (a ∷ [])) → Notes s a (Some k) t
-  notes_new k t none short e changed lt = (
-    ap (λ (x : ℕ). Some x) (e ∙ sym (newest_miss (1 + length s.logged) s.opened a (1 + length (s.logged ++ s.opened)) m)) ∙ sym (cond-false (full s a) None (Some (write_block s a)) free),
-    changed ∙ ap (at s.disk s.phase s.out s.n s.logged) (sym (cond-false (member a s.opened) s.opened (s.opened ++ (a ∷ [])) m)) ∙ sym (cond-false (full s a) s (noting s a) free),
-  )
-    where
-      m : member a s.opened ≡ false
-      m = none_member none
-
-      free : full s a ≡ false
-      free = and_left (leb 32 (length (s.logged ++ s.opened))) (not (member a s.opened)) (lt-leb 32 (length (s.logged ++ s.opened)) short)
+  notes_new k t none short e changed lt =
+      let m : member a s.opened ≡ false = grind arith in
+      let miss = newest_miss (1 + length s.logged) s.opened a (1 + length (s.logged ++ s.opened)) m in
+      (grind (arith, nat_tests), grind (arith, nat_tests))
 
 -- the table with one more address behind its open part
 pub pushed_values : {D : Type 0} (d : D) (p : _) (o : Bool) (h t : HeaderValues) (k a : ℕ) → k ≤ length h.log → t ≡ record { n = h.n; log = h.log ++ (a ∷ []) } →

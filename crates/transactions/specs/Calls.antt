@@ -7,10 +7,8 @@ use Rattle.disks.specs.declared.disk.Disk
 use Rattle.store.specs.Layout.{HeaderValues}
 use Rattle.store.specs.Log.{block_for}
 use Rattle.transactions.specs.StoreAnswers.{StoreDown, StoreAnswer, by_disk}
-use Rattle.transactions.specs.Stores.{StoreValues, at, on, down, first, Passes, start_checks, begin_checks, write_checks, read_checks, ticket_checks, write_block, noting}
+use Rattle.transactions.specs.Stores.{PhaseValues, Idle, Open, Down, StoreValues, at, on, down, first, Passes, start_checks, begin_checks, write_checks, read_checks, ticket_checks, write_block, noting}
 use Rattle.transactions.specs.DiskWork.{heading, settling, formatting, RecoversAt}
-use Rattle.transactions.specs.declared.phase.Phase.{Phase}
-use Rattle.transactions.specs.declared.phase.Phase.TheVariants.{Idle, Open, Down}
 
 -- the store after disk work: the one given if it was done, else down
 abbrev pub after : {D X E : Type 0} → Result X E → StoreValues D → StoreValues D
@@ -23,7 +21,7 @@ bare (Ok x) = Ok tt
 bare (Err e) = Err e
 
 -- an abandoned transaction leaves an open store idle
-abbrev pub closed : Phase → Phase
+abbrev pub closed : PhaseValues → PhaseValues
 closed Idle = Idle
 closed Open = Idle
 closed Down = Down
@@ -69,7 +67,7 @@ module _ {D : Type 0} (R : Reader.Ghosts D) (W : Disk.Ghosts D) where
   Logs [] s r t = (r ≡ Ok tt) × (t ≡ at s.disk Idle false s.n s.logged [])
   Logs (a ∷ rest) s r t = (q : Answer Unit) × (m : D) × heading R W (record { n = s.n; log = s.logged ++ s.opened }) s.disk q m × (r ≡ by_disk q) × (t ≡ committed q m s)
 
-  abbrev pub CommitsIn : Phase → StoreValues D → StoreAnswer Unit → StoreValues D → Type 0
+  abbrev pub CommitsIn : PhaseValues → StoreValues D → StoreAnswer Unit → StoreValues D → Type 0
   CommitsIn Idle s r t = Logs s.opened s r t
   CommitsIn Open s r t = Logs s.opened s r t
   CommitsIn Down s r t = (r ≡ Err StoreDown) × (t ≡ at s.disk Down false s.n s.logged [])

@@ -1,5 +1,5 @@
 -- The work that a store does on its disk, call by call.
-use Rattle.std.specs.Prelude.{◌≡◌, ℕ, zero, suc, ◌-◌, List, [], ◌∷◌, replicate, Ok, Err, MatchBool}
+use Rattle.std.specs.Prelude.{◌≡◌, ℕ, zero, suc, List, [], ◌∷◌, replicate, Ok, Err}
 use Rattle.disks.specs.Values.{RefusalValues, Answer}
 use Rattle.disks.specs.Meaning.{Content, Shown}
 use Rattle.disks.specs.declared.reader.Reader
@@ -7,8 +7,8 @@ use Rattle.disks.specs.declared.disk.Disk
 use Rattle.store.specs.Layout.{HeaderValues, empty, packed}
 use Rattle.store.specs.Log.{home}
 use Rattle.store.specs.LookValues.{LookAnswer}
-use Rattle.store.specs.Looks.{fit, ReadsHeader}
-use Rattle.transactions.specs.StoreAnswers.{StoreAnswer, Disk as DiskRefused, UnfitSize, from_look}
+use Rattle.store.specs.Looks.{ReadsHeader}
+use Rattle.transactions.specs.StoreAnswers.{StoreAnswer, Disk as DiskRefused, from_look}
 
 -- work: the disk before, the answer, the disk after
 abbrev pub Work : Type 0 → Type 1
@@ -73,7 +73,3 @@ module _ {D : Type 0} (R : Reader.Ghosts D) (W : Disk.Ghosts D) where
   abbrev pub RecoversAt : ℕ → D → StoreAnswer HeaderValues → D → Type 0
   RecoversAt n s x t = (q : Answer Unit) × (m : D) × W.restarts s q m
       × IfDone q (λ u. (h : LookAnswer HeaderValues) × (l : D) × ReadsHeader R n m h l × SettlesHeader h l x t) (λ e. (x ≡ Err (DiskRefused e)) × (t ≡ m))
-
-  -- the same by the size; none at all where that is unfit
-  abbrev pub Recovers : D → StoreAnswer HeaderValues → D → Type 0
-  Recovers s x t = MatchBool (fit (R.view s).size) (RecoversAt ((R.view s).size - 33) s x t) ((x ≡ Err UnfitSize) × (t ≡ s))

@@ -4,18 +4,35 @@ use Rattle.store.specs.Log.{newest}
 use Rattle.store.specs.Looks.{fit}
 use Rattle.transactions.specs.StoreAnswers.{StoreRefusalValues, UnfitSize, StoreDown, TransactionOpen, NoTicket, TicketOut, PastPlan, LogFull, StoreAnswer}
 use Rattle.transactions.specs.declared.phase.Phase.{Phase}
-use Rattle.transactions.specs.declared.phase.Phase.TheVariants.{Idle, Open, Down}
+use Rattle.transactions.specs.declared.phase.Phase.TheVariants as phase
+
+-- what a store can do next: no transaction is open, one is, or the store has to be restarted or formatted first
+pub data PhaseValues : Type 0 where
+  Idle : PhaseValues
+  Open : PhaseValues
+  Down : PhaseValues
+
+-- the same of the code's phase, and whether a ticket is out in it
+abbrev pub phase_values : Phase → PhaseValues
+phase_values phase.Idle = Idle
+phase_values phase.Open = Open
+phase_values (phase.Down out) = Down
+
+abbrev pub has_ticket : Phase → Bool
+has_ticket phase.Idle = false
+has_ticket phase.Open = true
+has_ticket (phase.Down out) = out
 
 -- a store: the disk it holds, its phase, whether a ticket is out, N, the logged addresses and those of the open writes
 pub record StoreValues (D : Type 0) : Type 0 where
   pub disk : D
-  pub phase : Phase
+  pub phase : PhaseValues
   pub out : Bool
   pub n : ℕ
   pub logged : List ℕ
   pub opened : List ℕ
 
-abbrev pub at : {D : Type 0} → D → Phase → Bool → ℕ → List ℕ → List ℕ → StoreValues D
+abbrev pub at : {D : Type 0} → D → PhaseValues → Bool → ℕ → List ℕ → List ℕ → StoreValues D
 at d ph o n xs ys = record { disk = d; phase = ph; out = o; n = n; logged = xs; opened = ys }
 
 -- the same store, with its disk left as m
@@ -26,12 +43,12 @@ on m s = at m s.phase s.out s.n s.logged s.opened
 abbrev pub down : {D : Type 0} → StoreValues D → StoreValues D
 down s = at s.disk Down s.out s.n s.logged s.opened
 
-abbrev pub is_down : Phase → Bool
+abbrev pub is_down : PhaseValues → Bool
 is_down Idle = false
 is_down Open = false
 is_down Down = true
 
-abbrev pub is_open : Phase → Bool
+abbrev pub is_open : PhaseValues → Bool
 is_open Idle = false
 is_open Open = true
 is_open Down = false

@@ -4,36 +4,30 @@ ghost use Rattle.disks.specs.Values.{answer_values};
 ghost use Rattle.store.specs.Headers.{header_values};
 ghost use Rattle.store.specs.Layout.{empty};
 ghost use Rattle.store.specs.Log.{home};
-ghost use Rattle.transactions.specs.StoreAnswers.{StoreAnswer};
-ghost use Rattle.transactions.specs.DiskWork.{Recovers, formatting, zeroing};
+ghost use Rattle.transactions.specs.DiskWork.{RecoversAt, formatting, zeroing};
 ghost use Rattle.transactions.specs.Recovery.{recovered};
 
 use crate::disk_work::settle_log;
 use crate::store_refusal::StoreRefusal;
 use disks::block::BLOCK_BYTES;
 use disks::disk::Disk;
-use disks::reader::Reader;
 use disks::refusal::Refusal;
 use store::header::Header;
-use store::look::{FIRST_HOME, plan_size, read_header};
+use store::look::{FIRST_HOME, read_header};
 
 // Restarts the disk and brings home what its log holds. It gives the header that stands then, with N and an empty log.
-pub(crate) fn recover<D: Disk>(disk: &mut D) -> Result<Header, StoreRefusal>
-    ensures { Recovers D.Reader D.Disk.own disk.old (recovered result) disk.new }
+pub(crate) fn recover<D: Disk>(disk: &mut D, n: u16) -> Result<Header, StoreRefusal>
+    ensures { RecoversAt D.Reader D.Disk.own n disk.old (recovered result) disk.new }
 {
-    let Some(n) = plan_size(disk.size()) else {
-        return Err(StoreRefusal::UnfitSize);
-    };
     disk.restart()?;
-    let mut header = read_header(disk, n)?;
-    settle_log(disk, &header)?;
-    header.truncate(0);
-    Ok(header)
+    let header = read_header(disk, n)?;
+    Ok(settle_log(disk, &header)?)
 }
 
 // Restarts the disk and makes it that of a new store: zeros at every address, and the header.
 pub(crate) fn format_disk<D: Disk>(disk: &mut D, header: &Header) -> Result<(), Refusal>
-    ensures { header_values header.now ≡ empty header.now.n → formatting D.Reader D.Disk.own header.now.n disk.old (answer_values result) disk.new }
+    requires { header_values header.now ≡ empty header.now.n }
+    ensures { formatting D.Reader D.Disk.own header.now.n disk.old (answer_values result) disk.new }
 {
     disk.restart()?;
     write_zeros(disk, header.n())?;

@@ -1,10 +1,9 @@
 // Write and read.
-ghost use Rattle.std.specs.Prelude.{◌≡◌, true, Err as Refused, ◌≢◌};
-ghost use Rattle.disks.specs.Values.{PastEnd};
+ghost use Rattle.std.specs.Prelude.{◌≡◌, true};
 ghost use Rattle.disks.specs.Meaning.{Untouched};
-ghost use Rattle.transactions.specs.StoreAnswers.{store_answer, store_shown, Disk as DiskRefused};
+ghost use Rattle.transactions.specs.StoreAnswers.{store_answer, store_shown};
 ghost use Rattle.transactions.specs.Calls.{Writes, Reads};
-ghost use Rattle.transactions.specs.Holding.{store_values, Tied};
+ghost use Rattle.transactions.specs.Holding.{store_values, Keeps};
 ghost use Rattle.transactions.specs.Examples.{WriteExamples};
 ghost use Rattle.transactions.specs.Slots.{open_slot, Notes};
 
@@ -24,35 +23,13 @@ impl<D: Disk> Store<D> {
         content: &Block,
     ) -> Result<(), StoreRefusal>
         ensures steps { Writes D.Reader D.Disk.own (store_values self.old) address content.now (store_answer result) (store_values self.new) }
-        ensures tied { Tied D.Reader (store_values self.old) → Tied D.Reader (store_values self.new) }
-        ensures inside { Tied D.Reader (store_values self.old) → store_answer result ≢ Refused (DiskRefused PastEnd) }
+        ensures keeps { Keeps D.Reader (store_values self.old) (store_answer result) (store_values self.new) }
         ensures examples { WriteExamples D }
     {
-        self.write_by_steps(address, content)
-    }
-
-    // Puts into the place the block at the address, as the open transaction has it.
-    pub fn read(&mut self, address: u16, place: &mut Block) -> Result<(), StoreRefusal>
-        ensures steps { Reads D.Reader D.Disk.own (store_values self.old) address (store_shown result place.new) (store_values self.new) }
-        ensures place { Untouched result place.old place.new }
-        ensures tied { Tied D.Reader (store_values self.old) → Tied D.Reader (store_values self.new) }
-        ensures inside { Tied D.Reader (store_values self.old) → store_shown result place.new ≢ Refused (DiskRefused PastEnd) }
-    {
-        self.read_by_steps(address, place)
-    }
-
-    fn write_by_steps(&mut self, address: u16, content: &Block) -> Result<(), StoreRefusal>
-        ensures { Writes D.Reader D.Disk.own (store_values self.old) address content.now (store_answer result) (store_values self.new) }
-    {
-        if !self.out {
+        if !self.phase.ticket_out() {
             return Err(StoreRefusal::NoTicket);
         }
-        if self.is_down() {
-            return Err(StoreRefusal::StoreDown);
-        }
-        if address >= self.table.n() {
-            return Err(StoreRefusal::PastPlan);
-        }
+        self.check_address(address)?;
         let Some(block) = self.note(address) else {
             return Err(StoreRefusal::LogFull);
         };
@@ -60,16 +37,13 @@ impl<D: Disk> Store<D> {
         self.answer(work)
     }
 
-    fn read_by_steps(&mut self, address: u16, place: &mut Block) -> Result<(), StoreRefusal>
+    // Puts into the place the block at the address, as the open transaction has it.
+    pub fn read(&mut self, address: u16, place: &mut Block) -> Result<(), StoreRefusal>
         ensures steps { Reads D.Reader D.Disk.own (store_values self.old) address (store_shown result place.new) (store_values self.new) }
         ensures place { Untouched result place.old place.new }
+        ensures keeps { Keeps D.Reader (store_values self.old) (store_shown result place.new) (store_values self.new) }
     {
-        if self.is_down() {
-            return Err(StoreRefusal::StoreDown);
-        }
-        if address >= self.table.n() {
-            return Err(StoreRefusal::PastPlan);
-        }
+        self.check_address(address)?;
         let block = self.table.slot_of(address).unwrap_or(FIRST_HOME + address);
         let work = self.disk.read(block, place);
         self.answer(work)
@@ -77,28 +51,23 @@ impl<D: Disk> Store<D> {
 
     // Notes the address among the open writes, and gives the block for it; none where the log is full.
     fn note(&mut self, address: u16) -> Option<u16>
-        requires { self.old.out ≡ true }
+        requires { (store_values self.old).out ≡ true }
         ensures { Notes (store_values self.old) address result (store_values self.new) }
     {
-        let open = self.open_slot(address);
-        if open.is_some() {
-            return open;
+        // Not `or_else`: the proof learns nothing of what its closure changes in the table.
+        if let Some(block) = self.open_slot(address) {
+            return Some(block);
         }
-        if !self.table.push(address) {
-            return None;
-        }
-        Some(self.table.log().len() as u16)
+        let added = self.table.push(address);
+        added.then(|| self.table.log().len() as u16)
     }
 
     // The slot of an open write to the address.
     fn open_slot(&self, address: u16) -> Option<u16>
         ensures { result ≡ open_slot (store_values self.now) address }
     {
-        let slot = self.table.slot_of(address)?;
-        if slot as usize > self.logged {
-            Some(slot)
-        } else {
-            None
-        }
+        self.table
+            .slot_of(address)
+            .filter(|slot| *slot as usize > self.logged)
     }
 }

@@ -1,12 +1,15 @@
+use Rattle.std.proofs.Common.{arith}
+use Rattle.std.proofs.lemmas.Grind.{common_steps}
+use Rattle.std.proofs.lemmas.List.{take_all, length-drop}
 use Rattle.transactions.specs.Holding.{store_values}
-use Rattle.transactions.proofs.Fair.{Lawful}
-use Rattle.transactions.proofs.Tables.{ordered}
+use Rattle.transactions.proofs.Tables.{table_parts, ordered}
 use Rattle.transactions.proofs.Ties.{commits_kept}
 use Rattle.transactions.proofs.plan_store.Store.commit.Goals as goal
 
-pub returns : goal.returns
-returns g c =
-    let s = c.args.self.now in
-    let t = c.commit_by_steps.new.self in
-    let laws : Lawful g.D.Reader g.D.Disk = record { proper = g.met.D.Disk.proper; reading = g.met.D.Disk.reading; writing = g.met.D.Disk.writing; flushing = g.met.D.Disk.flushing; restarting = g.met.D.Disk.restarting } in
-    record { steps = c.commit_by_steps.ensures; tied = λ tie. (commits_kept g.D.Reader g.D.Disk laws (store_values s) (store_values t) _ tie (ordered t) c.commit_by_steps.ensures).tied; inside = λ tie. (commits_kept g.D.Reader g.D.Disk laws (store_values s) (store_values t) _ tie (ordered t) c.commit_by_steps.ensures).inside }
+pub returns-clause-steps : goal.returns-clause-steps
+returns-clause-steps g c = grind (arith, common_steps, table_parts c.args.self.now, take_all, length-drop)
+
+pub returns-clause-keeps : goal.returns-clause-keeps
+returns-clause-keeps g c =
+    let d = g.met.D.Disk in
+    commits_kept g.D.Reader g.D.Disk (record { proper = d.proper; reading = d.reading; writing = d.writing; flushing = d.flushing; restarting = d.restarting }) (store_values c.args.self.now) (store_values c.answer.new.self) _ (ordered c.answer.new.self) (returns-clause-steps g c)

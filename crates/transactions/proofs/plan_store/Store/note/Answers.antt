@@ -1,53 +1,38 @@
-use Rattle.std.proofs.Common.{◌≡◌, ℕ, ◌≤◌, [], ◌∷◌, ◌++◌, length, take, drop, is_some, sym, refl, ap, ◌∙◌, subst, arith, length-append}
-use Rattle.std.proofs.lemmas.List.{take-append-drop}
-use Rattle.std.proofs.lemmas.Bool.{true≢false, cond_both}
+use Rattle.std.proofs.Common.{◌≡◌, ℕ, Bool, true, false, Option, Some, None, is_some, ◌∷◌, [], ◌++◌, length, take, drop, sym, ap, ◌∙◌, arith, rules, length-append}
+use Rattle.std.specs.Option.{IfSome}
 use Rattle.store.specs.Layout.{HeaderValues, has_room, with_address}
 use Rattle.store.specs.Headers.{header_values}
-use Rattle.transactions.specs.Stores.{at}
+use Rattle.transactions.specs.Stores.{at, phase_values, has_ticket}
+use Rattle.transactions.specs.Slots.{open_slot, Notes}
 use Rattle.transactions.specs.Holding.{store_values}
 use Rattle.transactions.specs.declared.plan_store.Store.{Store}
 use Rattle.transactions.proofs.Slots.{notes_again, notes_full, notes_new, pushed_values, has_room_true, has_room_false}
-use Rattle.transactions.proofs.Tables.{header_in_range}
+use Rattle.transactions.proofs.Tables.{table_parts}
 use Rattle.transactions.proofs.plan_store.Store.note.Goals as goal
 
--- the table's length by its parts
-both : {D : Type 0} (s : Store D) → length ((store_values s).logged ++ (store_values s).opened) ≡ length (header_values s.table).log
-both s = ap length (take-append-drop s.logged (header_values s.table).log)
+-- a table that took the address at its end, or had no room for it
+pushed : {D : Type 0} (s : Store D) (a : ℕ) (t : HeaderValues) (added : Bool) (r : Option ℕ) (P : ℕ → Type 0) → None ≡ open_slot (store_values s) a →
+    added ≡ has_room (header_values s.table) a → t ≡ with_address (header_values s.table) a → is_some r ≡ added → ((k : ℕ) → P k → k ≡ length t.log) → IfSome r P →
+    Notes (store_values s) a r (at s.disk (phase_values s.phase) (has_ticket s.phase) t.n (take s.logged t.log) (drop s.logged t.log))
+pushed s a t false None P none room after _ at_end p =
+    let full = has_room_false (header_values s.table) a (sym room) in
+    let parts = ap length (table_parts s) in
+    notes_full (store_values s) a _ none (λ lt. let f = full.0 lt in omega arith) (ap (λ (h : HeaderValues). at s.disk (phase_values s.phase) (has_ticket s.phase) h.n (take s.logged h.log) (drop s.logged h.log)) (after ∙ full.1))
+pushed s a t true (Some k) P none room after _ at_end p =
+    let h = header_values s.table in
+    let free = has_room_true h a (sym room) in
+    let is : t ≡ record { n = h.n; log = h.log ++ (a ∷ []) } = after ∙ free.1 in
+    let long = ap (λ (x : HeaderValues). length x.log) is in
+    let one = length-append h.log (a ∷ []) in
+    let parts = ap length (table_parts s) in
+    let last = at_end k p in
+    notes_new (store_values s) a k _ none (let f = free.0 in omega arith) (omega arith) (pushed_values s.disk (phase_values s.phase) (has_ticket s.phase) h t s.logged a s.within is)
+pushed s a t true None P none room after same at_end p = cc
+pushed s a t false (Some k) P none room after same at_end p = cc
 
--- a table that took the address, or not, is as long as it was or longer
-grown : (h t : HeaderValues) (a : ℕ) → t ≡ with_address h a → length h.log ≤ length t.log
-grown h t a e = subst (λ (k : HeaderValues). length h.log ≤ length k.log) (sym e) (cond_both (has_room h a) (record { n = h.n; log = h.log ++ (a ∷ []) }) h (λ (k : HeaderValues). length h.log ≤ length k.log) (λ _. let l = length-append h.log (a ∷ []) in omega arith) (λ _. omega arith))
-
-pub returns-then-is_some : goal.returns-then-is_some
-returns-then-is_some g c = notes_again (store_values c.args.self.now) c.args.address _ _ c.open_slot-open.ensures (sym c.if-is_some.ensures) refl
-
-pub invariant_of-self : goal.invariant_of-self
-invariant_of-self g c =
-    let s = c.args.self.now in
-    let l = grown (header_values s.table) _ c.args.address c.push.ensures.after in
-    record {
-      within = let w = s.within in omega arith;
-      opens = s.opens;
-      closed = λ e. absurd (true≢false (sym c.requires ∙ e));
-    }
-
-pub returns-then-not-push : goal.returns-then-not-push
-returns-then-not-push g c =
-    let s = c.args.self.now in
-    let none = has_room_false (header_values s.table) c.args.address (sym c.push.ensures.room ∙ c.if-not-push.true) in
-    let shut = ap is_some (sym c.open_slot-open.ensures) ∙ sym c.is_some.ensures ∙ c.if-is_some.false in
-    notes_full (store_values s) c.args.address _ shut (λ lt. let b = both s in let n = none.0 lt in omega arith) (ap (λ (h : HeaderValues). at s.disk s.phase s.out h.n (take s.logged h.log) (drop s.logged h.log)) (c.push.ensures.after ∙ none.1))
-
-pub overflow_cast-result : goal.overflow_cast-result
-overflow_cast-result g c = let few = (header_in_range c.push.new.self).few in omega (arith, ap length c.log.ensures)
+pub returns-in-Some : goal.returns-in-Some
+returns-in-Some g c = notes_again (store_values c.args.self.now) c.args.address _ (sym c.in-Some.is ∙ c.open_slot.ensures)
 
 pub returns : goal.returns
 returns g c =
-    let s = c.args.self.now in
-    let h = header_values s.table in
-    let some = has_room_true h c.args.address (sym c.push.ensures.room ∙ c.if-not-push.false) in
-    let shut = ap is_some (sym c.open_slot-open.ensures) ∙ sym c.is_some.ensures ∙ c.if-is_some.false in
-    let is : header_values c.push.new.self ≡ record { n = h.n; log = h.log ++ (c.args.address ∷ []) } = c.push.ensures.after ∙ some.1 in
-    let more = ap (λ (k : HeaderValues). length k.log) is in
-    let one = length-append h.log (c.args.address ∷ []) in
-    notes_new (store_values s) c.args.address _ _ shut (let b = both s in let l = some.0 in omega arith) (let b = both s in omega (arith, ap length c.log.ensures)) (pushed_values s.disk s.phase s.out h _ s.logged c.args.address s.within is)
+    pushed c.args.self.now c.args.address _ c.push-added.result _ _ (sym c.in_default.is ∙ c.open_slot.ensures) c.push-added.ensures.room c.push-added.ensures.after c.then.ensures.variant (λ k p. search rules) c.then.ensures.some

@@ -1,12 +1,16 @@
-use Rattle.transactions.specs.Holding.{store_values}
+use Rattle.std.proofs.Common.{arith}
+use Rattle.std.proofs.lemmas.Grind.{common_steps}
 use Rattle.transactions.proofs.Fair.{Lawful}
 use Rattle.transactions.proofs.Tables.{ordered}
 use Rattle.transactions.proofs.Ties.{restarts_kept}
+use Rattle.transactions.proofs.plan_store.Store.restart.Given.{Over}
 use Rattle.transactions.proofs.plan_store.Store.restart.Goals as goal
 
-pub returns : goal.returns
-returns g c =
-    let s = c.args.self.now in
-    let t = c.restart_by_steps.new.self in
-    let laws : Lawful g.D.Reader g.D.Disk = record { proper = g.met.D.Disk.proper; reading = g.met.D.Disk.reading; writing = g.met.D.Disk.writing; flushing = g.met.D.Disk.flushing; restarting = g.met.D.Disk.restarting } in
-    record { steps = c.restart_by_steps.ensures; tied = λ tie. (restarts_kept g.D.Reader g.D.Disk laws (store_values s) (store_values t) _ tie (ordered t) c.restart_by_steps.ensures).tied; inside = λ tie. (restarts_kept g.D.Reader g.D.Disk laws (store_values s) (store_values t) _ tie (ordered t) c.restart_by_steps.ensures).inside }
+laws : (g : Over) → Lawful g.D.Reader g.D.Disk
+laws g = let d = g.met.D.Disk in record { proper = d.proper; reading = d.reading; writing = d.writing; flushing = d.flushing; restarting = d.restarting }
+
+pub returns-in_err-header-clause-keeps : goal.returns-in_err-header-clause-keeps
+returns-in_err-header-clause-keeps g c = restarts_kept g.D.Reader g.D.Disk (laws g) _ _ _ (ordered c.answer.new.self) (grind (arith, common_steps))
+
+pub returns-clause-keeps : goal.returns-clause-keeps
+returns-clause-keeps g c = restarts_kept g.D.Reader g.D.Disk (laws g) _ _ _ (ordered c.come_up.new.self) (grind (arith, common_steps))
