@@ -1,6 +1,6 @@
 -- The address table of a store: its logged part, its open part, and its header.
-use Rattle.std.proofs.Common.{◌≡◌, ℕ, ◌<◌, not, ◌&&◌, List, ◌++◌, sym, refl, subst, arith, length-take}
-use Rattle.std.proofs.lemmas.List.{get_or-take, drop_all, take-append-drop}
+use Rattle.std.proofs.Common.{◌≡◌, ℕ, not, ◌&&◌, List, ◌++◌, sym, refl, subst, arith}
+use Rattle.std.proofs.lemmas.List.{drop_all, take-append-drop}
 use Rattle.store.specs.Layout.{InRange}
 use Rattle.store.specs.Headers.{header_values}
 use Rattle.store.specs.declared.header.Header.{Header}
@@ -12,14 +12,7 @@ use Rattle.transactions.specs.declared.phase.Phase.TheVariants.{Idle, Open, Down
 
 -- a header keeps its ranges
 header_in_range : (h : Header) → InRange (header_values h)
-header_in_range h =
-    let l = length-take h.count h.addresses in
-    record {
-      some = h.some;
-      most = h.most;
-      few = let c = h.counted in omega arith;
-      below = λ i lt. let k : i < h.count = omega arith in rw get_or-take (h.named i k);
-    }
+header_in_range h = h.in_range
 
 -- the parts of a store's table make up the whole
 pub table_parts : {D : Type 0} (s : Store D) → (store_values s).logged ++ (store_values s).opened ≡ (header_values s.table).log

@@ -12,7 +12,7 @@ use Rattle.transactions.proofs.plan_store.Store.format.Given.{Over}
 use Rattle.transactions.proofs.plan_store.Store.format.Goals as goal
 
 laws : (g : Over) → Lawful g.D.Reader g.D.Disk
-laws g = let d = g.met.D.Disk in record { proper = d.proper; reading = d.reading; writing = d.writing; flushing = d.flushing; restarting = d.restarting }
+laws g = let d = g.met.D.Disk in record { proper = g.met.D.Reader.proper; reading = g.met.D.Reader.reading; writing = d.writing; flushing = d.flushing; restarting = d.restarting }
 
 pub returns-in_err-answer-clause-steps : goal.returns-in_err-answer-clause-steps
 returns-in_err-answer-clause-steps g c =
