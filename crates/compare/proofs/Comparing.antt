@@ -11,7 +11,7 @@ use Rattle.store.specs.Looks.{fit, Looks, look_answer}
 use Rattle.store.proofs.Looking.{answer_keeps, answer_on}
 use Rattle.compare.specs.Differences.{difference, differences}
 use Rattle.compare.specs.Outcomes.{StopValues, Refused, Outcome}
-use Rattle.compare.specs.Compares.{shared, ComparesAt, Compared, Compares, LooksMeant, shows, block_in, plan, ShowsAll, Answers, Left, Meant, CompareMeans}
+use Rattle.compare.specs.Compares.{shared, ComparesAt, Compared, Compares, LooksMeant, shows, block_in, plan, ShowsAll, Left, Meant, CompareMeans}
 use Rattle.compare.specs.declared.difference.Difference.{Difference}
 use Rattle.compare.proofs.Turns.{compares_to}
 use Rattle.compare.specs.declared.stop.Side.TheVariants.{Old, New}
@@ -83,8 +83,8 @@ module _ {A B : Type 0} (R₀ : Reader.Ghosts A) (R₁ : Reader.Ghosts B) (s : A
 
   turn : (a : ℕ) (es ds : List Difference) (m s' : A) (k t' : B) (d : Option Difference) → Went a es m k → ComparesAt (LooksMeant R₀) (LooksMeant R₁) a m k (Ok d) s' t' →
       ds ≡ es ++ option_to_list d → Went (suc a) ds s' t'
-  turn a es ds m s' k t' d w (Err e, l, n) f = absurd (let z : ◌≡◌ {A = ℕ} 0 1 = cc n.0 in omega arith)
-  turn a es ds m s' k t' d w (Ok b, l, (Err e, r, n)) f = absurd (let z : ◌≡◌ {A = ℕ} 0 1 = cc in omega arith)
+  turn a es ds m s' k t' d w (Err e, l, n) f = absurd (cc n.0)
+  turn a es ds m s' k t' d w (Ok b, l, (Err e, r, n)) f = absurd (cc)
   turn a es ds m s' k t' d w (Ok b, l, (Ok c, r, n)) f =
       let p = looked_done R₀ (R₀.view s) m s' a w.old w.sound₀ b l in
       let q = looked_done R₁ (R₁.view t) k t' a w.new w.sound₁ c r in
@@ -103,16 +103,16 @@ module _ {A B : Type 0} (R₀ : Reader.Ghosts A) (R₁ : Reader.Ghosts B) (s : A
       }
 
   went : (a : ℕ) (ds : List Difference) (m : A) (k : B) → Compared (LooksMeant R₀) (LooksMeant R₁) a s t ds m k → Went a ds m k
-  went zero ds m k (e, f, g) = record {
-    sound₀ = subst R₀.sound (sym f) snd₀;
-    sound₁ = subst R₁.sound (sym g) snd₁;
-    old = subst (λ (u : A). Steady (R₀.view s) (R₀.view u)) (sym f) (steady_same (R₀.view s));
-    new = subst (λ (u : B). Steady (R₁.view t) (R₁.view u)) (sym g) (steady_same (R₁.view t));
+  went zero ds m k (e, f, g) = rw (f, g) (record {
+    sound₀ = snd₀;
+    sound₁ = snd₁;
+    old = steady_same (R₀.view s);
+    new = steady_same (R₁.view t);
     all₀ = λ j lt. absurd (omega arith);
     all₁ = λ j lt. absurd (omega arith);
     list = e;
     on = λ lt. absurd (omega arith);
-  }
+  })
   went (suc a) ds s' t' (m, k, es, d, before, at, e) = turn a es ds m s' k t' d (went a es m k before) at e
 
   -- the refusal of either side at an address
@@ -120,29 +120,30 @@ module _ {A B : Type 0} (R₀ : Reader.Ghosts A) (R₁ : Reader.Ghosts B) (s : A
       ComparesAt (LooksMeant R₀) (LooksMeant R₁) a m k (Err e) s' t' → R₀.sound s' × R₁.sound t' × Meant (R₀.view s) (R₁.view t) (Err e) (R₀.view s') (R₁.view t')
   refused a es m s' k t' e lt w (Err r, l, (n, stays)) =
       let p = looked R₀ (R₀.view s) m s' a w.old w.sound₀ (Err r) l in
-      let is : e ≡ Refused a Old r = cc in (
+      let is : e ≡ Refused a Old r = cc in
+      rw (is, stays) (
         p.0,
-        subst R₁.sound (sym stays) w.sound₁,
+        w.sound₁,
         record {
-          answer = subst (λ (x : StopValues). Answers (shared (R₀.view s).size (R₁.view t).size) (R₀.view s) (R₁.view t) (Err x) (R₀.view s').state (R₁.view t').state) (sym is) (lt, w.all₀, w.all₁, p.2, λ some. ap (λ (u : B). (R₁.view u).state) stays ∙ (w.on some).1);
+          answer = (lt, w.all₀, w.all₁, p.2, λ some. (w.on some).1);
           old = p.1;
-          new = subst (λ (u : B). Left (R₁.view t) (R₁.view u)) (sym stays) (left_steady (R₁.view t) (R₁.view k) w.new);
+          new = left_steady (R₁.view t) (R₁.view k) w.new;
         },
       )
   refused a es m s' k t' e lt w (Ok b, l, (Err r, y, n)) =
       let p = looked_done R₀ (R₀.view s) m s' a w.old w.sound₀ b l in
       let q = looked R₁ (R₁.view t) k t' a w.new w.sound₁ (Err r) y in
       let is : e ≡ Refused a New r = cc in
-      let all = shows_more (R₀.view s) a w.all₀ (planned (R₀.view s) a b p.3).1 in (
+      rw is (
         p.0,
         q.0,
         record {
-          answer = subst (λ (x : StopValues). Answers (shared (R₀.view s).size (R₁.view t).size) (R₀.view s) (R₁.view t) (Err x) (R₀.view s').state (R₁.view t').state) (sym is) (lt, all, w.all₁, q.2, p.2);
+          answer = (lt, shows_more (R₀.view s) a w.all₀ (planned (R₀.view s) a b p.3).1, w.all₁, q.2, p.2);
           old = left_steady (R₀.view s) (R₀.view s') p.1;
           new = q.1;
         },
       )
-  refused a es m s' k t' e lt w (Ok b, l, (Ok c, y, n)) = absurd (let z : ◌≡◌ {A = ℕ} 0 1 = cc in omega arith)
+  refused a es m s' k t' e lt w (Ok b, l, (Ok c, y, n)) = absurd (cc)
 
   pub compare_means : (x : Outcome (List Difference)) (s' : A) (t' : B) → Compares (LooksMeant R₀) (LooksMeant R₁) (shared (R₀.view s).size (R₁.view t).size) s t x s' t' →
       R₀.sound s' × R₁.sound t' × Meant (R₀.view s) (R₁.view t) x (R₀.view s') (R₁.view t')

@@ -1,5 +1,5 @@
 -- The comparison's loop: one address more, or the refusal that ends it.
-use Rattle.std.proofs.Common.{◌≡◌, ℕ, zero, suc, ◌+◌, ◌<◌, List, ◌++◌, Ok, Err, Option, sym, subst, add-one, arith}
+use Rattle.std.proofs.Common.{◌≡◌, ℕ, zero, suc, ◌+◌, ◌<◌, List, ◌++◌, Ok, Err, Option, add-one}
 use Rattle.disks.specs.Meaning.{Content}
 use Rattle.std.specs.Option.{option_to_list}
 use Rattle.store.specs.LookValues.{LookAnswer, LookRefusalValues}
@@ -14,17 +14,16 @@ module _ {A B : Type 0} (Look₀ : A → ℕ → LookAnswer Content → A → Ty
   pub refused_at : (a : ℕ) (s : A) (t : B) (e : StopValues) (s' : A) (t' : B) → ComparesAt Look₀ Look₁ a s t (Err e) s' t' → (side : Side) × (r : LookRefusalValues) × (e ≡ Refused a side r)
   refused_at a s t e s' t' (Err r, l, n) = (Old, r, cc)
   refused_at a s t e s' t' (Ok b, l, (Err r, k, n)) = (New, r, cc)
-  refused_at a s t e s' t' (Ok b, l, (Ok c, k, n)) = absurd (let z : ◌≡◌ {A = ℕ} 0 1 = cc in omega arith)
+  refused_at a s t e s' t' (Ok b, l, (Ok c, k, n)) = absurd (cc)
 
   module _ (a : ℕ) (s m : A) (t k : B) (es : List Difference) (before : Compared Look₀ Look₁ a s t es m k) where
     pub one_more : (ds : List Difference) (d : Option Difference) (s' : A) (t' : B) → ComparesAt Look₀ Look₁ a m k (Ok d) s' t' → ds ≡ es ++ option_to_list d → Compared Look₀ Look₁ (a + 1) s t ds s' t'
-    one_more ds d s' t' at e = subst (λ (n : ℕ). Compared Look₀ Look₁ n s t ds s' t') (sym (add-one a)) (m, k, es, d, before, at, e)
+    one_more ds d s' t' at e = rw (add-one a) (m, k, es, d, before, at, e)
 
     pub ends : (n : ℕ) (e : StopValues) (s' : A) (t' : B) → a < n → ComparesAt Look₀ Look₁ a m k (Err e) s' t' → Compares Look₀ Look₁ n s t (Err e) s' t'
-    ends n e s' t' lt at =
-        let r = refused_at a m k e s' t' at in
-        subst (λ (x : StopValues). Compares Look₀ Look₁ n s t (Err x) s' t') (sym r.2)
-        (lt, m, k, es, before, subst (λ (x : StopValues). ComparesAt Look₀ Look₁ a m k (Err x) s' t') r.2 at)
+    ends n e s' t' lt by =
+        let r = refused_at a m k e s' t' by in
+        rw r.2 (lt, m, k, es, before, rw r.2 at by)
 
 -- looks of one kind are looks of another: so are the comparisons that they make up
 module _ {A B : Type 0} (Look₀ Fewer₀ : A → ℕ → LookAnswer Content → A → Type 0) (Look₁ Fewer₁ : B → ℕ → LookAnswer Content → B → Type 0)

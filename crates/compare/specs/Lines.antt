@@ -10,8 +10,11 @@ use Rattle.compare.specs.declared.stop.Side.{Side}
 use Rattle.compare.specs.declared.stop.Side.TheVariants.{Old, New}
 
 -- address, offset, and the two bytes
+abbrev pub difference_text : Difference → List ℕ
+difference_text d = decimal d.address ++ (codes " " ++ (decimal d.offset ++ (codes " " ++ (decimal d.old ++ (codes " " ++ decimal d.new)))))
+
 abbrev pub difference_line : Difference → List ℕ
-difference_line d = decimal d.address ++ (codes " " ++ (decimal d.offset ++ (codes " " ++ (decimal d.old ++ (codes " " ++ (decimal d.new ++ codes "\n"))))))
+difference_line d = difference_text d ++ codes "\n"
 
 abbrev pub difference_lines : List Difference → List ℕ
 difference_lines ds = flat_map difference_line ds
@@ -21,8 +24,11 @@ side_text Old = codes "OLD"
 side_text New = codes "NEW"
 
 -- the addresses that one plan alone has
+abbrev pub only_text : Only → List ℕ
+only_text o = decimal o.first ++ (codes "-" ++ (decimal o.last ++ (codes " only in " ++ side_text o.side)))
+
 abbrev pub only_line : Only → List ℕ
-only_line o = decimal o.first ++ (codes "-" ++ (decimal o.last ++ (codes " only in " ++ (side_text o.side ++ codes "\n"))))
+only_line o = only_text o ++ codes "\n"
 
 abbrev pub only_lines : Option Only → List ℕ
 only_lines None = []

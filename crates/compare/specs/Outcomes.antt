@@ -1,6 +1,5 @@
 -- What a comparison comes to, as plain values.
-use Rattle.std.specs.Prelude.{ℕ, List, Ok, Err, vec_items, Option, Result, Vec}
-use Rattle.std.specs.declared.alloc.Global.{Global}
+use Rattle.std.specs.Prelude.{ℕ, List, Ok, Err, vec_items, Option, Result}
 use Rattle.store.specs.LookValues.{LookRefusalValues, look_refusal_values}
 use Rattle.compare.specs.declared.comparison.Comparison.{Comparison}
 use Rattle.compare.specs.declared.difference.Difference.{Difference}
@@ -18,14 +17,10 @@ stop_values s = Refused s.address s.side (look_refusal_values s.refusal)
 abbrev pub Outcome : Type 0 → Type 0
 Outcome X = Result X StopValues
 
--- what a comparison, its list, and one address of it came to
+-- what a comparison, and one address of it came to
 abbrev pub outcome : Result Comparison Stop → Outcome (List Difference)
 outcome (Ok c) = Ok (vec_items c.differences)
 outcome (Err e) = Err (stop_values e)
-
-abbrev pub list_outcome : Result (Vec Difference Global) Stop → Outcome (List Difference)
-list_outcome (Ok v) = Ok (vec_items v)
-list_outcome (Err e) = Err (stop_values e)
 
 abbrev pub turn_outcome : Result (Option Difference) Stop → Outcome (Option Difference)
 turn_outcome (Ok d) = Ok d

@@ -1,8 +1,9 @@
 // Each address of two plans, looked up in both.
-ghost use Rattle.std.specs.Prelude.{◌≡◌, ◌≤◌, IfOk};
+ghost use Rattle.std.specs.Prelude.{◌≡◌, IfOk, Some};
 ghost use Rattle.store.specs.Looks.{Looks};
 ghost use Rattle.compare.specs.Differences.{ListsExactly};
-ghost use Rattle.compare.specs.Outcomes.{outcome, list_outcome, turn_outcome};
+ghost use Rattle.compare.specs.Outcomes.{outcome, turn_outcome};
+ghost use Rattle.compare.specs.Lines.{only_text};
 ghost use Rattle.compare.specs.Compares.{shared, lone, LooksMeant, ComparesAt, Compares, CompareMeans};
 
 use crate::difference::{Difference, first_difference};
@@ -10,14 +11,25 @@ use crate::room::Room;
 use crate::stop::{Side, Stop};
 use disks::block::BLOCK_BYTES;
 use disks::reader::Reader;
-use store::look::{look, plan_size};
+use std::cmp::Ordering;
+use std::fmt;
+use store::look::{FIRST_HOME, look, plan_size};
 
 // The addresses that the longer plan alone has.
-#[derive(Clone, Copy)]
+#[derive(Clone, Copy, Debug, PartialEq, Eq)]
 pub struct Only {
     pub side: Side,
     pub first: u16,
     pub last: u16,
+}
+
+impl fmt::Display for Only {
+    ghost output = { λ o. Some (only_text o) };
+
+    fn fmt<W: fmt::Write>(&self, f: &mut fmt::Formatter<W>) -> fmt::Result {
+        let Only { side, first, last } = *self;
+        write!(f, "{first}-{last} only in {side}")
+    }
 }
 
 #[derive(Drop)]
@@ -43,32 +55,17 @@ pub fn compare<A: Reader, B: Reader>(
     let old_size = old.size();
     let new_size = new.size();
     let compared = shared_addresses(old_size, new_size);
-    let differences = list_differences(room, old, new, compared)?;
+    let mut differences = room.list;
+    for address in 0..compared {
+        if let Some(difference) = compare_at(old, new, address)? {
+            differences.push_reserved(difference);
+        }
+    }
     Ok(Comparison {
         compared,
         differences,
         only: lone_addresses(old_size, new_size),
     })
-}
-
-fn list_differences<A: Reader, B: Reader>(
-    room: Room,
-    old: &mut A,
-    new: &mut B,
-    addresses: u16,
-) -> Result<Vec<Difference>, Stop>
-    requires { addresses ≤ 4096 }
-    ensures { Compares (LooksMeant A.Reader) (LooksMeant B.Reader) addresses old.old new.old (list_outcome result) old.new new.new }
-{
-    let Room {
-        list: mut differences,
-    } = room;
-    for address in 0..addresses {
-        if let Some(difference) = compare_at(old, new, address)? {
-            differences.push_reserved(difference);
-        }
-    }
-    Ok(differences)
 }
 
 fn compare_at<A: Reader, B: Reader>(
@@ -78,22 +75,15 @@ fn compare_at<A: Reader, B: Reader>(
 ) -> Result<Option<Difference>, Stop>
     ensures { ComparesAt (LooksMeant A.Reader) (LooksMeant B.Reader) address old.old new.old (turn_outcome result) old.new new.new }
 {
+    let stop = |side, refusal| Stop {
+        address,
+        side,
+        refusal,
+    };
     let mut old_block = [0u8; BLOCK_BYTES];
     let mut new_block = [0u8; BLOCK_BYTES];
-    if let Err(refusal) = look(old, address, &mut old_block) {
-        return Err(Stop {
-            address,
-            side: Side::Old,
-            refusal,
-        });
-    }
-    if let Err(refusal) = look(new, address, &mut new_block) {
-        return Err(Stop {
-            address,
-            side: Side::New,
-            refusal,
-        });
-    }
+    look(old, address, &mut old_block).map_err(|refusal| stop(Side::Old, refusal))?;
+    look(new, address, &mut new_block).map_err(|refusal| stop(Side::New, refusal))?;
     Ok(first_difference(address, &old_block, &new_block))
 }
 
@@ -107,19 +97,14 @@ fn shared_addresses(old_size: u16, new_size: u16) -> u16
 fn lone_addresses(old_size: u16, new_size: u16) -> Option<Only>
     ensures { result ≡ lone old_size new_size }
 {
-    if old_size > new_size {
-        Some(Only {
-            side: Side::Old,
-            first: new_size.saturating_sub(33),
-            last: old_size.saturating_sub(34),
-        })
-    } else if new_size > old_size {
-        Some(Only {
-            side: Side::New,
-            first: old_size.saturating_sub(33),
-            last: new_size.saturating_sub(34),
-        })
-    } else {
-        None
-    }
+    let side = match old_size.cmp(&new_size) {
+        Ordering::Greater => Side::Old,
+        Ordering::Less => Side::New,
+        Ordering::Equal => return None,
+    };
+    Some(Only {
+        side,
+        first: old_size.min(new_size).saturating_sub(FIRST_HOME),
+        last: old_size.max(new_size).saturating_sub(FIRST_HOME + 1),
+    })
 }

@@ -1,6 +1,6 @@
 use Rattle.std.proofs.Common.{◌≤◌, vec_items, vec_len, vec_capacity}
 use Rattle.compare.specs.Compares.{Compared, LooksMeant}
-use Rattle.compare.proofs.comparison.list_differences.Given as goal
+use Rattle.compare.proofs.comparison.compare.Given as goal
 
 -- there is room for the addresses to come, and those before were compared
 abbrev pub invariant-loop-address : goal.invariant-loop-address
