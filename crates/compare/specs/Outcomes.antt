@@ -17,11 +17,14 @@ stop_values s = Refused s.address s.side (look_refusal_values s.refusal)
 abbrev pub Outcome : Type 0 → Type 0
 Outcome X = Result X StopValues
 
+-- what a result came to, where f takes what it gives to a plain value
+abbrev pub outcome_by : {T X : Type 0} → (T → X) → Result T Stop → Outcome X
+outcome_by f (Ok x) = Ok (f x)
+outcome_by f (Err e) = Err (stop_values e)
+
 -- what a comparison, and one address of it came to
 abbrev pub outcome : Result Comparison Stop → Outcome (List Difference)
-outcome (Ok c) = Ok (vec_items c.differences)
-outcome (Err e) = Err (stop_values e)
+outcome r = outcome_by (λ c. vec_items c.differences) r
 
 abbrev pub turn_outcome : Result (Option Difference) Stop → Outcome (Option Difference)
-turn_outcome (Ok d) = Ok d
-turn_outcome (Err e) = Err (stop_values e)
+turn_outcome r = outcome_by (λ d. d) r

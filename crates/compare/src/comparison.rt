@@ -42,6 +42,7 @@ pub struct Comparison {
 }
 
 // Looks up each address that both plans have, in the old store and then in the new one.
+// The two stay parameters of their own: a struct of both would be made here and taken apart in compare_at alone.
 pub fn compare<A: Reader, B: Reader>(
     room: Room,
     old: &mut A,

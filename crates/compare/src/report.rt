@@ -1,28 +1,34 @@
 // The text that tells a comparison, or why there is none.
-ghost use Rattle.std.specs.Prelude.{◌≡◌, IfOk, string_bytes};
+ghost use Rattle.std.specs.Prelude.{◌≡◌, IfOk, Some, string_bytes};
 ghost use Rattle.compare.specs.Outcomes.{stop_values};
 ghost use Rattle.compare.specs.Lines.{report_text, stop_text, unreadable_text};
 
 use crate::comparison::Comparison;
 use crate::stop::{Side, Stop};
 use std::alloc::{AllocError, Global};
-use std::fmt::Write;
+use std::fmt;
 
 // A line for each difference, one for the addresses that one plan alone has, and one that counts.
+impl fmt::Display for Comparison {
+    ghost output = { λ c. Some (report_text c) };
+
+    fn fmt<W: fmt::Write>(&self, f: &mut fmt::Formatter<W>) -> fmt::Result {
+        for difference in &self.differences {
+            writeln!(f, "{difference}")?;
+        }
+        if let Some(only) = self.only {
+            writeln!(f, "{only}")?;
+        }
+        let compared = self.compared;
+        let differ = self.differences.len();
+        writeln!(f, "{compared} compared, {differ} differ")
+    }
+}
+
 pub fn report(heap: Global, comparison: &Comparison) -> Result<String, AllocError>
     ensures { IfOk result (λ s. string_bytes s ≡ report_text comparison.now) }
 {
-    let mut text = String::new(heap);
-    for difference in &comparison.differences {
-        writeln!(text, "{difference}")?;
-    }
-    if let Some(only) = comparison.only {
-        writeln!(text, "{only}")?;
-    }
-    let compared = comparison.compared;
-    let differ = comparison.differences.len();
-    writeln!(text, "{compared} compared, {differ} differ")?;
-    Ok(text)
+    format!(in heap; "{comparison}")
 }
 
 // The line for a comparison that ended early: names the file that is no store, and says why.
