@@ -13,12 +13,15 @@ use Rattle.compare.specs.declared.stop.Side.TheVariants.{Old, New}
 abbrev pub difference_text : Difference → List ℕ
 difference_text d = decimal d.address ++ (codes " " ++ (decimal d.offset ++ (codes " " ++ (decimal d.old ++ (codes " " ++ decimal d.new)))))
 
+-- the same, as a line
 abbrev pub difference_line : Difference → List ℕ
 difference_line d = difference_text d ++ codes "\n"
 
+-- a line for each
 abbrev pub difference_lines : List Difference → List ℕ
 difference_lines ds = flat_map difference_line ds
 
+-- the name of a side
 abbrev pub side_text : Side → List ℕ
 side_text Old = codes "OLD"
 side_text New = codes "NEW"
@@ -27,9 +30,11 @@ side_text New = codes "NEW"
 abbrev pub only_text : Only → List ℕ
 only_text o = decimal o.first ++ (codes "-" ++ (decimal o.last ++ (codes " only in " ++ side_text o.side)))
 
+-- the same, as a line
 abbrev pub only_line : Only → List ℕ
 only_line o = only_text o ++ codes "\n"
 
+-- that line, if there are such addresses
 abbrev pub only_lines : Option Only → List ℕ
 only_lines None = []
 only_lines (Some o) = only_line o
@@ -38,6 +43,7 @@ only_lines (Some o) = only_line o
 abbrev pub summary_line : ℕ → ℕ → List ℕ
 summary_line compared differ = decimal compared ++ (codes " compared, " ++ (decimal differ ++ codes " differ\n"))
 
+-- the whole report
 abbrev pub report_text : Comparison → List ℕ
 report_text c = (difference_lines (vec_items c.differences) ++ only_lines c.only) ++ summary_line c.compared (vec_len c.differences)
 
