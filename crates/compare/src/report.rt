@@ -40,13 +40,13 @@ pub fn stop_line(
 ) -> Result<String, AllocError>
     ensures { IfOk result (λ s. string_bytes s ≡ stop_text old_file.now new_file.now (stop_values stop.now)) }
 {
-    let file = match stop.side {
+    let Stop { side, refusal, .. } = *stop;
+    let file = match side {
         Side::Old => old_file,
         Side::New => new_file,
     };
-    let number = stop.refusal.number();
-    let meaning = stop.refusal.meaning();
-    format!(in heap; "plandiff: {file}: {number}: {meaning}")
+    let number = refusal.number();
+    format!(in heap; "plandiff: {file}: {number}: {refusal}")
 }
 
 // The line for a file that cannot be read.
