@@ -2,7 +2,8 @@
 use Rattle.std.proofs.Common.{◌≡◌, ℕ, zero, suc, ◌-◌, ◌<◌, min, Bool, true, false, cond, List, ◌++◌, Some, None, Ok, Err, Option, unwrap_or, sym, refl, ap, ◌∙◌, subst, inl, inr, arith}
 use Rattle.disks.specs.Values.{On}
 use Rattle.disks.specs.Meaning.{View, Content, Off, Kept, FacesKeep, NoneGained, Unchanged}
-use Rattle.disks.proofs.Views.{same, kept_then, faces_then, gained_then, unchanged_then}
+use Rattle.disks.specs.ImageLaws.{same}
+use Rattle.disks.proofs.Views.{kept_then, faces_then, gained_then, unchanged_then}
 use Rattle.disks.specs.declared.reader.Reader
 use Rattle.std.proofs.lemmas.Bool.{cases_lt, leb-true, and_parts}
 use Rattle.std.specs.Option.{option_to_list}

@@ -1,6 +1,7 @@
 -- What a comparison comes to, as plain values.
 use Rattle.std.specs.Prelude.{ℕ, List, Ok, Err, vec_items, Option, Result}
-use Rattle.store.specs.LookValues.{LookRefusalValues, look_refusal_values}
+use Rattle.disks.specs.Meaning.{Content}
+use Rattle.store.specs.LookValues.{LookRefusalValues, LookAnswer, look_refusal_values}
 use Rattle.compare.specs.declared.comparison.Comparison.{Comparison}
 use Rattle.compare.specs.declared.difference.Difference.{Difference}
 use Rattle.compare.specs.declared.stop.Side.{Side}
@@ -21,6 +22,11 @@ Outcome X = Result X StopValues
 abbrev pub outcome_by : {T X : Type 0} → (T → X) → Result T Stop → Outcome X
 outcome_by f (Ok x) = Ok (f x)
 outcome_by f (Err e) = Err (stop_values e)
+
+-- what one look of a comparison came to
+abbrev pub looked_at : Result Unit Stop → Content → LookAnswer Content
+looked_at (Ok u) b = Ok b
+looked_at (Err s) b = Err (look_refusal_values s.refusal)
 
 -- what a comparison, and one address of it came to
 abbrev pub outcome : Result Comparison Stop → Outcome (List Difference)

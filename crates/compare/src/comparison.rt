@@ -1,15 +1,15 @@
 // Each address of two plans, looked up in both.
-ghost use Rattle.std.specs.Prelude.{◌≡◌, IfOk, Some};
+ghost use Rattle.std.specs.Prelude.{◌≡◌, IfErr, IfOk, Some};
 ghost use Rattle.store.specs.Looks.{Looks};
 ghost use Rattle.compare.specs.Differences.{ListsExactly};
-ghost use Rattle.compare.specs.Outcomes.{outcome, turn_outcome};
+ghost use Rattle.compare.specs.Outcomes.{outcome, turn_outcome, looked_at};
 ghost use Rattle.compare.specs.Lines.{only_text};
 ghost use Rattle.compare.specs.Compares.{shared, lone, LooksMeant, ComparesAt, Compares, CompareMeans};
 
 use crate::difference::{Difference, first_difference};
 use crate::room::Room;
 use crate::stop::{Side, Stop};
-use disks::block::BLOCK_BYTES;
+use disks::block::{BLOCK_BYTES, Block};
 use disks::reader::Reader;
 use std::cmp::Ordering;
 use std::fmt;
@@ -76,16 +76,31 @@ fn compare_at<A: Reader, B: Reader>(
 ) -> Result<Option<Difference>, Stop>
     ensures { ComparesAt (LooksMeant A.Reader) (LooksMeant B.Reader) address old.old new.old (turn_outcome result) old.new new.new }
 {
-    let stop = |side, refusal| Stop {
-        address,
-        side,
-        refusal,
-    };
     let mut old_block = [0u8; BLOCK_BYTES];
     let mut new_block = [0u8; BLOCK_BYTES];
-    look(old, address, &mut old_block).map_err(|refusal| stop(Side::Old, refusal))?;
-    look(new, address, &mut new_block).map_err(|refusal| stop(Side::New, refusal))?;
+    look_at(old, Side::Old, address, &mut old_block)?;
+    look_at(new, Side::New, address, &mut new_block)?;
     Ok(first_difference(address, &old_block, &new_block))
+}
+
+fn look_at<R: Reader>(
+    reader: &mut R,
+    side: Side,
+    address: u16,
+    place: &mut Block,
+) -> Result<(), Stop>
+    ensures looks { LooksMeant R.Reader reader.old address (looked_at result place.new) reader.new }
+    ensures stop { IfErr result (λ s. (s.address ≡ address) × (s.side ≡ side)) }
+{
+    // Not `map_err`: the check has no proof for a closure that is handed a look's refusal here.
+    match look(reader, address, place) {
+        Ok(()) => Ok(()),
+        Err(refusal) => Err(Stop {
+            address,
+            side,
+            refusal,
+        }),
+    }
 }
 
 // At least one, so that what is no store is met by a look.
