@@ -1,4 +1,5 @@
 pub mod Dividing
+mod Passing
 mod Reading
 mod Spelling
 mod Scheduling

@@ -1,5 +1,5 @@
 -- The words of a line, one after another.
-use Rattle.std.proofs.Common.{◌≡◌, ℕ, suc, ◌+◌, ◌^◌, ◌<◌, ◌≤◌, List, [], ◌∷◌, ◌++◌, length, get_or, take, drop, Some, None, sym, refl, ap, ◌∙◌, subst, append_assoc, append-nil, arith, length-append}
+use Rattle.std.proofs.Common.{◌≡◌, ℕ, suc, ◌+◌, ◌^◌, ◌<◌, ◌≤◌, List, [], ◌∷◌, ◌++◌, length, take, drop, Some, None, sym, refl, ap, ◌∙◌, subst, append_assoc, append-nil, arith, length-append}
 use Rattle.std.proofs.ByRecursion.{All-push}
 use Rattle.std.proofs.lemmas.List.{take_at, drop_at, flat_map_more}
 use Rattle.std.specs.List.{flat_map, AllByRecursion}
@@ -44,20 +44,16 @@ no_more line done rest some e bad ws few f =
     first_left (length done) rest p.0 p.2 (omega (arith, p.1)) bad
 
 -- after a word there is a space or the end
-pub no_space : (rest after : List ℕ) (v n : ℕ) → rest ≡ word_text v ++ after → 0 < length after → (get_or after 0 0 ≡ 32 → ⊥) →
+pub no_space : (rest after : List ℕ) (v n : ℕ) → rest ≡ word_text v ++ after → (length after ≡ 0 → ⊥) → ((more : List ℕ) → after ≡ 32 ∷ more → ⊥) →
     (w : ℕ) (ms : List ℕ) → n + suc (length ms) ≤ 64 → rest ≡ word_text w ++ flat_map spaced ms → ⊥
-no_space rest after v n e some other w [] few f = let p = front_word v w after [] (sym e ∙ f) in omega (arith, ap length p.1)
-no_space rest after v n e some other w (m ∷ ms) few f = let p = front_word v w after (flat_map spaced (m ∷ ms)) (sym e ∙ f) in other (ap (λ (t : List ℕ). get_or t 0 0) p.1)
+no_space rest after v n e some other w [] few f = let p = front_word v w after [] (sym e ∙ f) in some (ap length p.1)
+no_space rest after v n e some other w (m ∷ ms) few f = let p = front_word v w after (flat_map spaced (m ∷ ms)) (sym e ∙ f) in other _ p.1
 
 -- one word more
 pub word_more : (line done rest after : List ℕ) (v : ℕ) → 32 ∷ line ≡ flat_map spaced done ++ (32 ∷ rest) → rest ≡ word_text v ++ after → 32 ∷ line ≡ flat_map spaced (done ++ (v ∷ [])) ++ after
 word_more line done rest after v e f =
     e ∙ ap (λ (r : List ℕ). flat_map spaced done ++ (32 ∷ r)) f ∙ sym (append_assoc (flat_map spaced done) (spaced v) after)
     ∙ ap (λ (t : List ℕ). t ++ after) (flat_map_more spaced [] done v)
-
-pub space_more : (after : List ℕ) → 0 < length after → get_or after 0 0 ≡ 32 → after ≡ 32 ∷ drop 1 after
-space_more [] some e = absurd (omega arith)
-space_more (b ∷ bs) some e = ap (λ x. x ∷ bs) e
 
 pub all_words : (line ws after : List ℕ) → 32 ∷ line ≡ flat_map spaced ws ++ after → after ≡ [] → line ≡ schedule_text ws
 all_words line ws after e end = ap (drop 1) (e ∙ ap (λ (t : List ℕ). flat_map spaced ws ++ t) end ∙ append-nil (flat_map spaced ws))

@@ -1,16 +1,11 @@
 -- Pieces and lines of a text.
-use Rattle.std.specs.Prelude.{ℕ, cond, List, [], ◌∷◌, Some, None, Option, ◌==◌}
+use Rattle.std.specs.Prelude.{ℕ, List, [], ◌∷◌, Some, None, Option, ◌==◌}
 use Rattle.std.specs.Borrow.{Bor}
-
--- a byte put before the first piece
-abbrev pub onto : ℕ → List (List ℕ) → List (List ℕ)
-onto b [] = (b ∷ []) ∷ []
-onto b (p ∷ ps) = (b ∷ p) ∷ ps
+use Rattle.std.specs.List.{slice_split}
 
 -- the pieces between the dividers: one more than there are dividers
 abbrev pub pieces : ℕ → List ℕ → List (List ℕ)
-pieces divider [] = [] ∷ []
-pieces divider (b ∷ bs) = cond (b == divider) ([] ∷ pieces divider bs) (onto b (pieces divider bs))
+pieces divider bs = slice_split (λ b. b == divider) bs
 
 -- the pieces of the text that is left, if there is one
 abbrev pub pieces_in : ℕ → Option (Bor (List ℕ)) → List (List ℕ)

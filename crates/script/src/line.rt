@@ -4,8 +4,6 @@ ghost use Rattle.script.specs.Pieces.{lines};
 
 use crate::piece::split_first;
 
-pub const LINE_FEED: u8 = 10;
-
 // Takes the first line off, without its line feed, and gives what follows it; nothing if there is no line.
 pub fn split_line(input: &[u8]) -> Option<(&[u8], &[u8])>
     ensures { MatchOption result (lines input.now ≡ []) (λ p. lines input.now ≡ p.0.now ∷ lines p.1.now) }
@@ -13,9 +11,6 @@ pub fn split_line(input: &[u8]) -> Option<(&[u8], &[u8])>
     if input.is_empty() {
         return None;
     }
-    let (line, after) = split_first(input, LINE_FEED);
-    match after {
-        Some(rest) => Some((line, rest)),
-        None => Some((line, &input[input.len()..])),
-    }
+    let (line, after) = split_first(input, b'\n');
+    Some((line, after.unwrap_or(&[])))
 }

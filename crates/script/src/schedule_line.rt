@@ -9,6 +9,7 @@ use std::alloc::{AllocError, Global};
 pub const WORDS_AT_MOST: usize = 64;
 
 // The words of the line; none if the line is of no such form. Only the making of the list can find no memory.
+#[tactic(auto, using(crate::proofs::Scheduling::schedules_apart))]
 pub fn parse_schedule(heap: Global, line: &[u8]) -> Result<Option<Vec<u32>>, AllocError>
     ensures words { IfOk result (λ o. LineSays line.now (option_map vec_items o)) }
     ensures law { SchedulesApart }
@@ -28,16 +29,13 @@ fn read_words(mut words: Vec<u32>, line: &[u8]) -> Option<Vec<u32>>
     ensures { LineSays line.now (option_map vec_items result) }
 {
     let mut rest = line;
-    for _done in 0..WORDS_AT_MOST {
+    for _ in 0..WORDS_AT_MOST {
         let (word, after) = split_word(rest)?;
         words.push_reserved(word);
         if after.is_empty() {
             return Some(words);
         }
-        if after[0] != b' ' {
-            return None;
-        }
-        rest = &after[1..];
+        rest = after.strip_prefix(b" ")?;
     }
     None
 }

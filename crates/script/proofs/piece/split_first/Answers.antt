@@ -1,12 +1,19 @@
-use Rattle.std.proofs.Common.{add-one, arith}
-use native.Mathlib.Nat.{sub-zero}
+use Rattle.std.proofs.Common.{ℕ, Bool, eqb, sym, ◌∙◌, rules}
+use Rattle.std.proofs.lemmas.Iterator.{YieldsList-from_slice}
+use Rattle.std.proofs.lemmas.Iterator.Search.{position_from_yields_List}
 use Rattle.std.proofs.lemmas.List.{take_rest}
-use Rattle.script.proofs.Dividing.{pieces_cut, pieces_whole}
+use borrow.Author.Tests.{tests}
+use Rattle.script.proofs.Dividing.{split_at, split_none}
 use Rattle.script.proofs.piece.split_first.Goals as goal
 
-pub returns-then-end-text : goal.returns-then-end-text
-returns-then-end-text c =
-    simp (take_rest, add-one, sub-zero) (pieces_cut c.args.divider c.args.text.now c.find-end.result (omega arith) c.find-end.ensures.before (c.find-end.ensures.found (omega arith)))
+pub returns-in-Some : goal.returns-in-Some
+returns-in-Some c =
+    let p : ℕ → Bool = λ b. eqb b c.args.divider in
+    let found = position_from_yields_List p _ _ c.position.result c.position.ensures.ran (YieldsList-from_slice c.args.text.now cc) (λ x b q k. search (rules, tests)) in
+    simp take_rest (split_at p c.args.text.now c.in-Some.end (sym c.in-Some.is ∙ found))
 
-pub returns-else-end-text : goal.returns-else-end-text
-returns-else-end-text c = pieces_whole c.args.divider c.args.text.now (λ k l. c.find-end.ensures.before k (omega arith))
+pub returns-in-None : goal.returns-in-None
+returns-in-None c =
+    let p : ℕ → Bool = λ b. eqb b c.args.divider in
+    let found = position_from_yields_List p _ _ c.position.result c.position.ensures.ran (YieldsList-from_slice c.args.text.now cc) (λ x b q k. search (rules, tests)) in
+    split_none p c.args.text.now (sym c.in-None.is ∙ found)

@@ -1,51 +1,39 @@
-use Rattle.std.proofs.Common.{ℕ, ◌<◌, List, ◌∷◌, ◌++◌, length, vec_items, sym, ap, ◌∙◌, arith, true-eqb, false-eqb}
-use Rattle.std.proofs.lemmas.List.{nil_from_length, take_rest}
+use Rattle.std.proofs.Common.{ℕ, List, [], ◌∷◌, ◌++◌, length, vec_items, Some, None, sym, ap, ◌∙◌, arith, false-eqb}
+use Rattle.std.proofs.lemmas.Bool.Decides.{Decides-eqb}
+use Rattle.std.proofs.lemmas.Slice.Eq.{strip_prefix_is}
 use Rattle.std.specs.List.{flat_map}
 use Rattle.script.specs.Words.{spaced}
-use Rattle.script.proofs.Scheduling.{fits_more, no_more, no_space, word_more, space_more, all_words}
+use Rattle.script.proofs.Scheduling.{fits_more, no_more, no_space, word_more}
 use Rattle.script.proofs.schedule_line.read_words.Goals as goal
 
 pub returns-in_err-word : goal.returns-in_err-word
 returns-in_err-word c =
-    rw c.from_residual.ensures (no_more c.args.line.now (vec_items c.loop-done.words) c.loop-done.rest.now c.requires.begins c.loop-done.invariant.3 (λ w ms few e. c.in_err-word.ensures w _ e))
+    rw c.from_residual.ensures (no_more c.args.line.now (vec_items c.loop.words) c.loop.rest.now c.requires.begins c.loop.invariant.read (λ w ms few e. c.in_err-word.ensures w _ e))
 
-pub returns-then-is_empty : goal.returns-then-is_empty
-returns-then-is_empty c =
-    let line = c.args.line.now in
-    let ws = vec_items c.push_reserved.new.self in
+pub returns-in_err-rest : goal.returns-in_err-rest
+returns-in_err-rest c =
+    let done = vec_items c.loop.words in
+    let rest = c.loop.rest.now in
     let after = c.in_ok-word.after.now in
-    let more = word_more line (vec_items c.loop-done.words) c.loop-done.rest.now after c.in_ok-word.word c.loop-done.invariant.3 c.in_ok-word.ensures.1 in
+    let other = strip_prefix_is Decides-eqb after (32 ∷ []) None c.in_err-rest.ensures.cases in
+    rw c.from_residual-in_err-rest.ensures (no_more c.args.line.now done rest c.requires.begins c.loop.invariant.read (no_space rest after c.in_ok-word.word (length done) c.in_ok-word.ensures.1 (false-eqb _ _ c.if-is_empty.ensures) other))
+
+pub loop-preserved : goal.loop-preserved
+loop-preserved c =
+    let line = c.args.line.now in
+    let done = vec_items c.loop.words in
+    let after = c.in_ok-word.after.now in
+    let ws = vec_items c.push_reserved.new.self in
+    let space = strip_prefix_is Decides-eqb after (32 ∷ []) (Some c.in_ok-rest.rest) c.in_ok-rest.ensures.cases in
+    let more = word_more line done c.loop.rest.now after c.in_ok-word.word c.loop.invariant.read c.in_ok-word.ensures.1 in
     let items = c.push_reserved.ensures.items in
     let len = c.push_reserved.ensures.len in
-    let fits = fits_more (vec_items c.loop-done.words) ws c.in_ok-word.word c.loop-done.invariant.2 c.in_ok-word.ensures.0 items in
-    let ok = c.push_reserved.new.self.ok.0 in
-    (omega arith, fits, all_words line ws after (more ∙ ap (λ (vs : List ℕ). flat_map spaced vs ++ after) (sym items)) (nil_from_length after (true-eqb _ _ c.if-is_empty.ensures)))
-
-pub returns-then-after-ne32 : goal.returns-then-after-ne32
-returns-then-after-ne32 c =
-    let done = vec_items c.loop-done.words in
-    let rest = c.loop-done.rest.now in
-    let after = c.in_ok-word.after.now in
-    let some : 0 < length after = omega (arith, false-eqb _ _ c.if-is_empty.ensures) in
-    no_more c.args.line.now done rest c.requires.begins c.loop-done.invariant.3 (no_space rest after c.in_ok-word.word (length done) c.in_ok-word.ensures.1 some c.if-after-ne32.true)
-
-pub loop-done-preserved : goal.loop-done-preserved
-loop-done-preserved c =
-    let line = c.args.line.now in
-    let ws = vec_items c.push_reserved.new.self in
-    let after = c.in_ok-word.after.now in
-    let more = word_more line (vec_items c.loop-done.words) c.loop-done.rest.now after c.in_ok-word.word c.loop-done.invariant.3 c.in_ok-word.ensures.1 in
-    let items = c.push_reserved.ensures.items in
-    let len = c.push_reserved.ensures.len in
-    let fits = fits_more (vec_items c.loop-done.words) ws c.in_ok-word.word c.loop-done.invariant.2 c.in_ok-word.ensures.0 items in
     let capacity = c.push_reserved.ensures.capacity in
-    let some : 0 < length after = omega (arith, false-eqb _ _ c.if-is_empty.ensures) in (
-      omega arith,
-      omega arith,
-      fits,
-      more ∙ ap (λ (vs : List ℕ). flat_map spaced vs ++ after) (sym items)
-          ∙ ap (λ (t : List ℕ). flat_map spaced ws ++ t) (space_more after some c.if-after-ne32.false ∙ ap (λ (t : List ℕ). 32 ∷ t) (sym (take_rest after 1))),
-    )
+    record {
+      room = (omega arith, omega arith);
+      fit = fits_more done ws c.in_ok-word.word c.loop.invariant.fit c.in_ok-word.ensures.0 items;
+      read = more ∙ ap (λ (vs : List ℕ). flat_map spaced vs ++ after) (sym items) ∙ ap (λ (t : List ℕ). flat_map spaced ws ++ t) space;
+    }
 
 pub returns : goal.returns
-returns c = no_more c.args.line.now (vec_items c.loop-done.words) c.loop-done.rest.now c.requires.begins c.loop-done.invariant.3 (λ w ms few e. let ok = c.loop-done.words.ok.0 in omega arith)
+returns c = no_more c.args.line.now (vec_items c.loop.words) c.loop.rest.now c.requires.begins c.loop.invariant.read (λ w ms few e. let ok = c.loop.words.ok.0 in omega arith)

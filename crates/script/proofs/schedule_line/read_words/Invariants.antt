@@ -4,5 +4,9 @@ use Rattle.script.specs.Words.{spaced}
 use Rattle.script.proofs.schedule_line.read_words.Given as goal
 
 -- there is room for the words to come, and those before were read
-abbrev pub invariant-loop-done : goal.invariant-loop-done
-invariant-loop-done l = (vec_len l.words ≡ l._done) × (64 ≤ vec_capacity l.words) × AllByRecursion (λ w. w < 2 ^ 32) (vec_items l.words) × (32 ∷ l.line ≡ flat_map spaced (vec_items l.words) ++ (32 ∷ l.rest))
+abbrev pub invariant-loop : goal.invariant-loop
+invariant-loop l = record {
+  room : (vec_len l.words ≡ l.counter) × (64 ≤ vec_capacity l.words);
+  fit : AllByRecursion (λ w. w < 2 ^ 32) (vec_items l.words);
+  read : 32 ∷ l.line ≡ flat_map spaced (vec_items l.words) ++ (32 ∷ l.rest);
+}
