@@ -10,8 +10,8 @@ use script::answer::{tell_call, tell_read};
 use script::line::split_line;
 use std::alloc::{AllocError, Global};
 
-// What a run printed, and whether each of its lines was a call.
-#[derive(Drop)]
+// What a run printed, and whether each of its lines was a call. There is a text either way, so that no Option or Result holds it.
+#[derive(Debug, Drop)]
 pub struct Transcript {
     pub text: String,
     pub whole: bool,
