@@ -1,9 +1,10 @@
 -- The lines of answers, as bytes.
 use Rattle.std.specs.Prelude.{ℕ, List, ◌++◌, Ok, Err, codes, decimal, slice_index}
+use Rattle.disks.specs.Text.{cause_text}
 use Rattle.disks.specs.Values.{RefusalValues, PastEnd, IsDark, IsLost, Answer}
 use Rattle.disks.specs.Meaning.{Shown}
-use Rattle.disks.specs.Text.{cause_text}
 
+-- the refusal's number, and the cause where there is one
 abbrev pub refusal_line : RefusalValues → List ℕ
 refusal_line PastEnd = codes "1\n"
 refusal_line (IsDark c) = codes "2 " ++ (cause_text c ++ codes "\n")

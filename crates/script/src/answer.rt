@@ -22,7 +22,7 @@ pub fn tell_read(
     }
 }
 
-// The line of a write, a barrier or a restart.
+// The line of a write, a barrier or a restart. One function for both kinds would want the done part as a text of its own.
 pub fn tell_call(heap: Global, answer: Result<(), Refusal>) -> Result<String, AllocError>
     ensures { IfOk result (λ s. string_bytes s ≡ call_line (answer_values answer)) }
 {

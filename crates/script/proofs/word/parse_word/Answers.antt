@@ -1,6 +1,7 @@
-use Rattle.std.proofs.Common.{sym, ◌∙◌}
+use Rattle.std.proofs.Common.{sym, subst, ◌∙◌}
 use Rattle.script.proofs.Passing.{passing_utf8, utf8_same, utf8_reads}
 use Rattle.script.proofs.Spelling.{capital, capital_small, other_length_no_word, other_byte_no_word, word_read}
+use Rattle.script.specs.Words.{TextSays}
 use Rattle.script.proofs.word.parse_word.Goals as goal
 use Rattle.script.proofs.word.parse_word.Goals.{then-text-ne-WORD_DIGITS-via-then-text-ne-WORD_DIGITS, then-text-ne-WORD_DIGITS-via-else-text-ne-WORD_DIGITS+then-not-is_capital_hex}
 
@@ -19,4 +20,4 @@ pub returns-clause-word : goal.returns-clause-word
 returns-clause-word c =
     let same = utf8_same _ c.args.text.now _ _ c.from_utf8.ensures.cases (sym c.ok.ensures.value ∙ c.in_ok-ok.was) in
     let reads = rw same at c.from_str_radix.ensures.value in
-    rw c.ok-2.ensures.value (word_read c.args.text.now _ c.if-text-ne-WORD_DIGITS.false (sym c.if-not-is_capital_hex.ensures) reads)
+    subst (TextSays c.args.text.now) (sym c.ok-2.ensures.value) (word_read c.args.text.now _ c.if-text-ne-WORD_DIGITS.false (sym c.if-not-is_capital_hex.ensures) reads)
