@@ -32,11 +32,6 @@ one_piece : (b : ℕ) (bs : List ℕ) (t : Bool) → cond t ([] ∷ pieces 10 bs
 one_piece b bs true e = let p = pieces_some 10 bs in cc
 one_piece b bs false e = let p = pieces_some 10 bs in let g : onto_first b (p.0 ∷ p.1) ≡ [] ∷ [] = ap (onto_first b) (sym p.2) ∙ e in cc
 
--- no text has no line
-pub no_lines : (bs : List ℕ) → length bs ≡ 0 → lines bs ≡ []
-no_lines [] e = refl
-no_lines (b ∷ bs) e = absurd (omega arith)
-
 only_line : (bs line : List ℕ) → (length bs ≡ 0 → ⊥) → pieces 10 bs ≡ line ∷ [] → lines bs ≡ line ∷ []
 only_line [] line some e = absurd (some refl)
 only_line (b ∷ bs) [] some e = absurd (one_piece b bs (eqb b 10) e)

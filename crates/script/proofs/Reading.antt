@@ -1,10 +1,8 @@
 -- Digits, and the number that they write.
-use Rattle.std.proofs.Common.{◌≡◌, ℕ, ◌^◌, ◌<◌, ◌≤◌, true, false, cond, ◌&&◌, leb, List, [], ◌∷◌, length, Some, None, Ok, Err, Result, decimal, refl, sym, ap, ◌∙◌, arith, rules}
+use Rattle.std.proofs.Common.{◌≡◌, ℕ, ◌^◌, ◌<◌, ◌≤◌, true, false, cond, ◌&&◌, leb, List, [], ◌∷◌, length, Some, None, Ok, Err, Result, decimal, refl, ap, ◌∙◌, arith, rules}
 use Rattle.std.proofs.lemmas.Bool.Decides.{nat_tests}
 use Rattle.std.proofs.lemmas.Fmt.{digits_decimal, digits_value-decimal, decimal_nonempty}
-use Rattle.std.proofs.lemmas.Option.{same_Some}
 use Rattle.std.proofs.lemmas.Str.Parse.{IsNumeralModel, numerals_by_value, tells_all_ascii_digits, parse_digits}
-use Rattle.std.specs.Bool.{then_some}
 use Rattle.std.specs.Char.{is_ascii_digit}
 use Rattle.std.specs.List.{list_all}
 use Rattle.std.specs.Result.{OkIff, result_ok}
@@ -20,10 +18,6 @@ only_digits : (ds : List ℕ) → all_ascii_digits ds ≡ list_all is_ascii_digi
 only_digits [] = refl
 only_digits (d ∷ ds) = ap (λ b. is_ascii_digit d && b) (only_digits ds)
 
-pub other_byte : (limit : ℕ) (ds : List ℕ) → list_all is_ascii_digit ds ≡ false → None ≡ number_of limit ds
-other_byte limit [] other = refl
-other_byte limit (d ∷ ds) other = rw (only_digits (d ∷ ds) ∙ other) refl
-
 own : IsNumeralModel (λ ds. all_ascii_digits ds ≡ true) (digits_value 10)
 own = numerals_by_value (λ ds. all_ascii_digits ds ≡ true) tells_all_ascii_digits
 
@@ -31,20 +25,11 @@ own = numerals_by_value (λ ds. all_ascii_digits ds ≡ true) tells_all_ascii_di
 parsed : {E : Type 0} (ds : List ℕ) (r : Result ℕ E) → list_all is_ascii_digit ds ≡ true → ParsesUnsigned 16 10 ds r → OkIff r ((0 < length ds) × (digits_value 10 ds < 2 ^ 16)) (digits_value 10 ds)
 parsed ds r all reads = parse_digits own 16 ds r reads (only_digits ds ∙ all)
 
-within : (limit n : ℕ) (ds : List ℕ) → list_all is_ascii_digit ds ≡ true → 0 < length ds → n ≡ digits_value 10 ds → then_some (leb n limit) n ≡ number_of limit ds
-within limit n [] all some e = absurd (omega arith)
-within limit n (d ∷ ds) all some e = rw (only_digits (d ∷ ds) ∙ all, ← e) (elim (leb n limit) as (λ b. then_some b n ≡ cond b (Some n) None) [ true ↦ refl | false ↦ refl ])
-
 past : (limit : ℕ) (ds : List ℕ) → ((0 < length ds) × (digits_value 10 ds < 2 ^ 16) → ⊥) → limit < 2 ^ 16 → None ≡ number_of limit ds
 past limit [] none fits = refl
 past limit (d ∷ ds) none fits =
     let e : leb (digits_value 10 (d ∷ ds)) limit ≡ false = grind (arith, nat_tests) in
     rw e (elim (all_ascii_digits (d ∷ ds)) as (λ b. None ≡ cond (b && false) (Some (digits_value 10 (d ∷ ds))) None) [ true ↦ refl | false ↦ refl ])
-
-pub number_read : {E : Type 0} (limit : ℕ) (ds : List ℕ) (r : Result ℕ E) (n : ℕ) → list_all is_ascii_digit ds ≡ true → ParsesUnsigned 16 10 ds r →
-    result_ok r ≡ Some n → then_some (leb n limit) n ≡ number_of limit ds
-number_read {E} limit ds (Ok m) n all reads e = let p = parsed {E = E} ds (Ok m) all reads in within limit n ds all p.0.0 (sym (same_Some m n e) ∙ p.1)
-number_read limit ds (Err f) n all reads e = cc
 
 pub number_past : {E : Type 0} (limit : ℕ) (ds : List ℕ) (r : Result ℕ E) → list_all is_ascii_digit ds ≡ true → limit < 2 ^ 16 → ParsesUnsigned 16 10 ds r →
     result_ok r ≡ None → None ≡ number_of limit ds

@@ -1,5 +1,5 @@
 -- The words of a line, one after another.
-use Rattle.std.proofs.Common.{◌≡◌, ℕ, suc, ◌+◌, ◌^◌, ◌<◌, ◌≤◌, List, [], ◌∷◌, ◌++◌, length, take, drop, Some, None, sym, refl, ap, ◌∙◌, subst, append_assoc, append-nil, arith, length-append}
+use Rattle.std.proofs.Common.{◌≡◌, ℕ, suc, ◌+◌, ◌^◌, ◌<◌, ◌≤◌, List, [], ◌∷◌, ◌++◌, length, take, drop, None, sym, refl, ap, ◌∙◌, subst, append_assoc, arith, length-append}
 use Rattle.std.proofs.ByRecursion.{All-push}
 use Rattle.std.proofs.lemmas.List.{take_at, drop_at, flat_map_more}
 use Rattle.std.specs.List.{flat_map, AllByRecursion}
@@ -55,9 +55,6 @@ word_more line done rest after v e f =
     e ∙ ap (λ (r : List ℕ). flat_map spaced done ++ (32 ∷ r)) f ∙ sym (append_assoc (flat_map spaced done) (spaced v) after)
     ∙ ap (λ (t : List ℕ). t ++ after) (flat_map_more spaced [] done v)
 
-pub all_words : (line ws after : List ℕ) → 32 ∷ line ≡ flat_map spaced ws ++ after → after ≡ [] → line ≡ schedule_text ws
-all_words line ws after e end = ap (drop 1) (e ∙ ap (λ (t : List ℕ). flat_map spaced ws ++ t) end ∙ append-nil (flat_map spaced ws))
-
 spaced_apart : (vs ws : List ℕ) → AllByRecursion (λ w. w < 2 ^ 32) vs → AllByRecursion (λ w. w < 2 ^ 32) ws → flat_map spaced vs ≡ flat_map spaced ws → vs ≡ ws
 spaced_apart [] [] f g e = refl
 spaced_apart [] (w ∷ ws) f g e = let z : ◌≡◌ {A = ℕ} 0 1 = cc in absurd (omega arith)
@@ -89,7 +86,3 @@ starts_with_no_word text none w after e = none w (ap (take 8) e ∙ take_at (wor
 -- one word more that fits
 pub fits_more : (vs ws : List ℕ) (w : ℕ) → AllByRecursion (λ w. w < 2 ^ 32) vs → w < 2 ^ 32 → ws ≡ vs ++ (w ∷ []) → AllByRecursion (λ w. w < 2 ^ 32) ws
 fits_more vs ws w all small e = subst (λ (us : List ℕ). AllByRecursion (λ w. w < 2 ^ 32) us) (sym e) (All-push (λ w. w < 2 ^ 32) vs w all small)
-
--- an empty line is no words
-pub no_words : (line ws : List ℕ) → line ≡ [] → ws ≡ [] → LineSays line (Some ws)
-no_words line ws e f = subst (λ (us : List ℕ). LineSays line (Some us)) (sym f) (omega arith, tt, e)

@@ -5,6 +5,7 @@ ghost use Rattle.script.specs.Pieces.{lines};
 use crate::piece::split_first;
 
 // Takes the first line off, without its line feed, and gives what follows it; nothing if there is no line.
+#[tactic(auto, using(crate::proofs::Dividing::first_line))]
 pub fn split_line(input: &[u8]) -> Option<(&[u8], &[u8])>
     ensures { MatchOption result (lines input.now ≡ []) (λ p. lines input.now ≡ p.0.now ∷ lines p.1.now) }
 {

@@ -21,6 +21,7 @@ pub fn parse_schedule(heap: Global, line: &[u8]) -> Result<Option<Vec<u32>>, All
     Ok(read_words(words, line))
 }
 
+#[tactic(auto, using(crate::proofs::Scheduling::no_more))]
 fn read_words(mut words: Vec<u32>, line: &[u8]) -> Option<Vec<u32>>
     requires items { words.items ≡ [] }
     requires len { vec_len words ≡ 0 }

@@ -7,7 +7,7 @@ ghost use Rattle.script.specs.Words.{word_text, TextSays, WordsApart, StartsNoWo
 pub const WORD_DIGITS: usize = 8;
 
 // The word that is written so; none if no word is.
-#[tactic(auto, using(crate::proofs::Spelling::words_apart))]
+#[tactic(auto, using(crate::proofs::Spelling::words_apart, crate::proofs::Spelling::other_length_no_word, crate::proofs::Spelling::other_byte_no_word))]
 pub fn parse_word(text: &[u8]) -> Option<u32>
     ensures word { TextSays text.now result }
     ensures law { WordsApart }

@@ -1,11 +1,8 @@
 use Rattle.std.proofs.Common.{sym, ◌∙◌, arith}
 use Rattle.std.specs.Char.{is_ascii_digit}
 use Rattle.script.proofs.Passing.{passing_utf8, utf8_same, utf8_reads}
-use Rattle.script.proofs.Reading.{digit_small, other_byte, number_read, number_past}
+use Rattle.script.proofs.Reading.{digit_small, number_past}
 use Rattle.script.proofs.number.parse_number.Goals as goal
-
-pub returns-then-not-is_decimal-clause-value : goal.returns-then-not-is_decimal-clause-value
-returns-then-not-is_decimal-clause-value c = other_byte c.args.limit c.args.text.now (sym c.if-not-is_decimal.ensures)
 
 pub returns-in_err-ok-clause-value : goal.returns-in_err-ok-clause-value
 returns-in_err-ok-clause-value c =
@@ -16,9 +13,3 @@ returns-in_err-number-clause-value c =
     let same = utf8_same _ c.args.text.now _ _ c.from_utf8.ensures.cases (sym c.ok.ensures.value ∙ c.in_ok-ok.was) in
     let reads = rw same at c.parse.ensures.value.0 in
     c.from_residual-in_err-number.ensures ∙ number_past c.args.limit c.args.text.now _ (sym c.if-not-is_decimal.ensures) (omega arith) reads (sym c.ok-2.ensures.value ∙ c.in_err-number.was)
-
-pub returns-clause-value : goal.returns-clause-value
-returns-clause-value c =
-    let same = utf8_same _ c.args.text.now _ _ c.from_utf8.ensures.cases (sym c.ok.ensures.value ∙ c.in_ok-ok.was) in
-    let reads = rw same at c.parse.ensures.value.0 in
-    c.then_some.ensures ∙ number_read c.args.limit c.args.text.now _ _ (sym c.if-not-is_decimal.ensures) reads (sym c.ok-2.ensures.value ∙ c.in_ok-number.was)

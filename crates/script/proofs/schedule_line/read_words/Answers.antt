@@ -6,10 +6,6 @@ use Rattle.script.specs.Words.{spaced}
 use Rattle.script.proofs.Scheduling.{fits_more, no_more, no_space, word_more}
 use Rattle.script.proofs.schedule_line.read_words.Goals as goal
 
-pub returns-in_err-word : goal.returns-in_err-word
-returns-in_err-word c =
-    rw c.from_residual.ensures (no_more c.args.line.now (vec_items c.loop.words) c.loop.rest.now c.requires.begins c.loop.invariant.read (λ w ms few e. c.in_err-word.ensures w _ e))
-
 pub returns-in_err-rest : goal.returns-in_err-rest
 returns-in_err-rest c =
     let done = vec_items c.loop.words in
@@ -34,6 +30,3 @@ loop-preserved c =
       fit = fits_more done ws c.in_ok-word.word c.loop.invariant.fit c.in_ok-word.ensures.0 items;
       read = more ∙ ap (λ (vs : List ℕ). flat_map spaced vs ++ after) (sym items) ∙ ap (λ (t : List ℕ). flat_map spaced ws ++ t) space;
     }
-
-pub returns : goal.returns
-returns c = no_more c.args.line.now (vec_items c.loop.words) c.loop.rest.now c.requires.begins c.loop.invariant.read (λ w ms few e. let ok = c.loop.words.ok.0 in omega arith)
