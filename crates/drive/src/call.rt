@@ -15,6 +15,7 @@ pub enum DiskCall {
 }
 
 // The call that the line asks for; none if it is of no such form.
+#[tactic(auto, using(crate::proofs::Asking::other_call))]
 pub fn parse_call(line: &[u8]) -> Option<DiskCall>
     ensures { result ≡ call_of line.now }
 {

@@ -1,6 +1,6 @@
 use Rattle.std.proofs.Common.{sym, ap, ◌∙◌}
 use Rattle.std.specs.Option.{option_map}
-use Rattle.drive.proofs.Asking.{read_call, write_call, other_call}
+use Rattle.drive.proofs.Asking.{read_call, write_call}
 use Rattle.drive.specs.declared.call.DiskCall.TheVariants.{Read}
 use Rattle.drive.proofs.call.parse_call.Goals as goal
 
@@ -23,7 +23,3 @@ pub returns-in_ok-fill-in-Some-2 : goal.returns-in_ok-fill-in-Some-2
 returns-in_ok-fill-in-Some-2 c =
     let asked = write_call c.args.line.now c.split_first.result.0.now c.split_first.result.1 c.in-Some-2.words c.split_first.ensures c.in-Some-2.is (sym c.if-is_word-4.ensures) _ _ c.in_ok-byte-in-Some-2.field-0 c.split_first-in-Some-2.ensures c.in_ok-byte-in-Some-2.was in
     rw (← c.in_ok-number-in-Some-2.ensures.value, ← c.in_ok-fill-in-Some-2.ensures.value) at asked
-
-pub returns-in_default-2 : goal.returns-in_default-2
-returns-in_default-2 c =
-    other_call c.args.line.now c.split_first.result.0.now c.split_first.result.1 c.in-Some-2.words c.split_first.ensures c.in-Some-2.is (sym c.if-is_word-3.ensures) (sym c.if-is_word-4.ensures)
