@@ -1,3 +1,1 @@
 mod OnBench
-mod OnPair
-mod Inputs

@@ -2,4 +2,5 @@
 #![tactic(auto)]
 
 pub mod input;
+mod kind;
 pub mod stands;

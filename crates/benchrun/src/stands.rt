@@ -1,5 +1,5 @@
 // The line that tells what stands in a memory.
-ghost use Rattle.std.specs.Prelude.{◌≡◌, ◌*◌, ◌<◌, ◌++◌, IfOk, string_bytes, slice_index};
+ghost use Rattle.std.specs.Prelude.{◌≡◌, ◌++◌, IfOk, string_bytes};
 ghost use Rattle.benchrun.specs.Output.{stands_line, ending};
 
 use disks::block::BLOCK_BYTES;
@@ -8,15 +8,14 @@ use std::alloc::{AllocError, Global};
 
 pub const BLOCKS: usize = 8;
 
-// The first byte of each block.
+// The first byte of each block; zero where the memory ends before it.
 pub fn tell_standing(heap: Global, memory: &[u8]) -> Result<String, AllocError>
     ensures { IfOk result (λ s. string_bytes s ≡ stands_line memory.now) }
 {
     let mut text = String::from_str(heap, "stands")?;
-    for k in 0..BLOCKS {
-        let first = first_byte(memory, k);
-        let word = format!(in heap; " {first}")?;
-        text.push_str(word.as_str())?;
+    for block in 0..BLOCKS {
+        let first = memory.get(BLOCK_BYTES * block).copied().unwrap_or(0);
+        write!(text, " {first}")?;
     }
     text.push_str("\n")?;
     Ok(text)
@@ -32,13 +31,4 @@ pub fn finish(heap: Global, transcript: Transcript, memory: &[u8]) -> Result<Str
         text.push_str(line.as_str())?;
     }
     Ok(text)
-}
-
-// A memory that ends before the block has a zero there.
-fn first_byte(memory: &[u8], block: usize) -> u8
-    requires { block < 8 }
-    ensures { result ≡ slice_index memory.now (512 * block) }
-{
-    let at = BLOCK_BYTES * block;
-    if at < memory.len() { memory[at] } else { 0 }
 }

@@ -2,5 +2,5 @@ use Rattle.std.proofs.Common.{◌≡◌, ◌++◌, string_bytes, codes}
 use Rattle.benchrun.specs.Output.{first_bytes}
 use Rattle.benchrun.proofs.stands.tell_standing.Given as goal
 
-abbrev pub invariant-loop-k : goal.invariant-loop-k
-invariant-loop-k l = string_bytes l.text ≡ codes "stands" ++ first_bytes l.k l.memory
+abbrev pub invariant-loop-block : goal.invariant-loop-block
+invariant-loop-block l = string_bytes l.text ≡ codes "stands" ++ first_bytes l.block l.memory
