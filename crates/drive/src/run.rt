@@ -18,6 +18,7 @@ pub struct Transcript {
 }
 
 // Makes the calls of the script in order, up to the first line that is of no such form.
+#[tactic(auto, using(crate::proofs::Running::onward_more, crate::proofs::Running::onward_ends))]
 pub fn run<D: Disk>(heap: Global, disk: &mut D, script: &[u8]) -> Result<Transcript, AllocError>
     ensures { IfOk result (λ o. Runs D.Reader D.Disk.own (lines script.now) disk.old (string_bytes o.text) o.whole disk.new) }
 {
