@@ -29,16 +29,6 @@ impl Refusal {
         }
     }
 
-    pub fn meaning(&self) -> &'static str
-        ensures { result.now ≡ meaning_of (refusal_values self.now) }
-    {
-        match self {
-            Refusal::PastEnd => "block at or past the size",
-            Refusal::Dark(_) => "disk dark",
-            Refusal::Lost(_) => "lost: disk dead",
-        }
-    }
-
     // The refusal as the pair gives it whose side the disk is.
     pub fn under(self, side: Side) -> Refusal
         ensures { refusal_values result ≡ refusal_under (side_number side) (refusal_values self) }
@@ -56,6 +46,10 @@ impl fmt::Display for Refusal {
     ghost output = { λ e. Some (meaning_of (refusal_values e)) };
 
     fn fmt<W: fmt::Write>(&self, f: &mut fmt::Formatter<W>) -> fmt::Result {
-        f.write_str(self.meaning())
+        f.write_str(match self {
+            Refusal::PastEnd => "block at or past the size",
+            Refusal::Dark(_) => "disk dark",
+            Refusal::Lost(_) => "lost: disk dead",
+        })
     }
 }

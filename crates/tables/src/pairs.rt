@@ -2,7 +2,7 @@
 use crate::calls::{buffered, number_of, plain, play};
 use bench_disks::buffered::Buffered;
 use bench_disks::plain::Plain;
-use disks::cause::Call;
+use disks::cause::{Call, Cause};
 use disks::disk::Disk;
 use disks::reader::Reader;
 use disks::refusal::Refusal;
@@ -28,22 +28,9 @@ fn low(heap: Global, words0: &[u32], words1: &[u32]) -> Result<Low, Fail> {
     join(plain(heap, 1024, words0)?, buffered(heap, 1024, words1)?)
 }
 
-// The answer has this number, and its cause this call and these sides.
-fn check_cause(
-    rt: &impl Abort,
-    answer: Result<(), Refusal>,
-    number: u8,
-    call: Option<Call>,
-    sides: &[Side],
-) {
-    assert_eq!(rt; number_of(answer), number);
-    match answer {
-        Err(Refusal::Dark(cause) | Refusal::Lost(cause)) => {
-            assert!(rt; cause.call == call);
-            assert!(rt; cause.trail.sides() == sides);
-        }
-        Ok(()) | Err(Refusal::PastEnd) => panic!(rt; "no cause"),
-    }
+// The answer of a pair whose side went dark at the call.
+fn dark(call: Call, side: Side) -> Result<(), Refusal> {
+    Err(Refusal::Dark(Cause::at(call).under(side)))
 }
 
 // A side, the number of empty steps before its event, and the call that meets it. The first restart takes three steps of side 0 and four
@@ -81,8 +68,8 @@ fn cuts_in_a_restart(rt: HostRuntime) -> Result<(), Fail> {
     for (side, gap, call) in RESTART_STEPS {
         for verb in [0x40000000u32, 0x80000000] {
             let mut pair = with_event(&rt, rt.alloc(), side, verb + gap)?;
-            check_cause(&rt, pair.restart(), 2, Some(call), &[side]);
-            check_cause(&rt, pair.barrier(), 2, Some(call), &[side]);
+            assert_eq!(rt; pair.restart(), dark(call, side));
+            assert_eq!(rt; pair.barrier(), dark(call, side));
             play(
                 &rt,
                 &mut pair,
@@ -124,9 +111,9 @@ fn deaths_in_a_restart(rt: HostRuntime) -> Result<(), Fail> {
 fn both_sides_die(rt: HostRuntime) -> Result<(), Fail> {
     let mut pair = low(rt.alloc(), &[0xC0000003], &[0xC0000004])?;
     play(&rt, &mut pair, &[(Call::Restart, 0, 0)]);
-    let call = Some(Call::Write(1));
-    check_cause(&rt, pair.write(1, &[7; 512]), 3, call, &[Side::One]);
-    check_cause(&rt, pair.restart(), 3, call, &[Side::One]);
+    let lost = Err(Refusal::Lost(Cause::at(Call::Write(1)).under(Side::One)));
+    assert_eq!(rt; pair.write(1, &[7; 512]), lost);
+    assert_eq!(rt; pair.restart(), lost);
     play(
         &rt,
         &mut pair,
@@ -147,13 +134,8 @@ fn trail_of_two_sides(rt: HostRuntime) -> Result<(), Fail> {
         buffered(rt.alloc(), 1024, &[])?,
     )?;
     assert_eq!(rt; pile.height(), 2);
-    check_cause(
-        &rt,
-        pile.restart(),
-        2,
-        Some(Call::Restart),
-        &[Side::Zero, Side::One],
-    );
+    let cause = Cause::at(Call::Restart).under(Side::One).under(Side::Zero);
+    assert_eq!(rt; pile.restart(), Err(Refusal::Dark(cause)));
     assert_eq!(rt; number_of(pile.restart()), 0);
     Ok(())
 }
@@ -225,7 +207,7 @@ fn one_side_dead_at_the_making(rt: HostRuntime) -> Result<(), Fail> {
     let mut dead = plain(rt.alloc(), 512, &[0xC0000000])?;
     play(&rt, &mut dead, &[(Call::Barrier, 0, 3)]);
     let mut pair = join(dead, buffered(rt.alloc(), 512, &[])?)?;
-    check_cause(&rt, pair.barrier(), 2, None, &[]);
+    assert_eq!(rt; pair.barrier(), Err(Refusal::Dark(Cause::unjoined())));
     play(
         &rt,
         &mut pair,
