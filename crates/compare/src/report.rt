@@ -13,14 +13,15 @@ impl fmt::Display for Comparison {
     ghost output = { λ c. Some (report_text c) };
 
     fn fmt<W: fmt::Write>(&self, f: &mut fmt::Formatter<W>) -> fmt::Result {
+        let compared = self.compared;
+        let differ = self.differences.len();
+        let lone = self.only;
         for difference in &self.differences {
             writeln!(f, "{difference}")?;
         }
-        if let Some(only) = self.only {
+        if let Some(only) = lone {
             writeln!(f, "{only}")?;
         }
-        let compared = self.compared;
-        let differ = self.differences.len();
         writeln!(f, "{compared} compared, {differ} differ")
     }
 }

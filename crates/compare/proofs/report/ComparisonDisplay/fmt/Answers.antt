@@ -10,5 +10,5 @@ returns-clause-writes g c p k =
     let items = vec_items c.args.self.now.differences in
     let lines = has_written_of_eq _ _ _ _ _ (ap difference_lines (take_all c.loop-difference.difference-index items (omega arith))) (c.loop-difference.invariant p) in
     has_written_append _ _ _ _ _ _
-    (has_written_append _ _ (difference_lines items) _ (only_lines c.args.self.now.only) c.match-self.f lines (elim c.match-self.branch [ in-Some+in_ok-writeln-2 w ↦ search rules | in_default w ↦ search rules ]))
+    (has_written_append _ _ (difference_lines items) _ (only_lines c.args.self.now.only) c.match-lone.f lines (elim c.match-lone.branch [ in-Some+in_ok-writeln-2 w ↦ search rules | in_default w ↦ search rules ]))
     (search rules)
