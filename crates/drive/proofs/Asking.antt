@@ -63,19 +63,21 @@ module _ (line name : List ℕ) (after : Option (Bor (List ℕ))) (words : Bor (
       (p.0, p.1, p.2, named ∙ ap (λ (o : Option (Bor (List ℕ))). name ∷ pieces_in 32 o) more ∙ ap (λ (ps : List (List ℕ)). name ∷ ps) p.2)
 
   -- a block is all that may follow the name of a read
-  pub read_call : bytes_eq name (codes "read") ≡ true → option_map Read (number_of 65535 words.now) ≡ call_of line
-  read_call is =
+  pub read_call : bytes_eq name (codes "read") ≡ true → (k : Option ℕ) → k ≡ number_of 65535 words.now → option_map Read k ≡ call_of line
+  read_call is k number =
       let p = named_words in
-      read_of words.now p.0 p.1 p.2 ∙ ap (λ (n : List ℕ). by_words (n ∷ (p.0 ∷ p.1))) (sym ((bytes_eq-Decides name (codes "read")).0 is)) ∙ ap by_words (sym p.3)
+      ap (option_map Read) number ∙ read_of words.now p.0 p.1 p.2 ∙ ap (λ (n : List ℕ). by_words (n ∷ (p.0 ∷ p.1))) (sym ((bytes_eq-Decides name (codes "read")).0 is)) ∙ ap by_words (sym p.3)
 
   -- a block and a byte are all that may follow the name of a write
   pub write_call : bytes_eq name (codes "write") ≡ true → (block : List ℕ) (rest : Option (Bor (List ℕ))) (byte : Bor (List ℕ)) → pieces 32 words.now ≡ block ∷ pieces_in 32 rest → rest ≡ Some byte →
-      write_with (number_of 65535 block) (number_of 255 byte.now) ≡ call_of line
-  write_call is block rest byte divided last =
+      (k b : Option ℕ) → k ≡ number_of 65535 block → b ≡ number_of 255 byte.now → write_with k b ≡ call_of line
+  write_call is block rest byte divided last k b number fill =
       let p = pieces_some 32 byte.now in
       let two : pieces 32 words.now ≡ block ∷ (p.0 ∷ p.1) = divided ∙ ap (λ (o : Option (Bor (List ℕ))). block ∷ pieces_in 32 o) last ∙ ap (λ (ps : List (List ℕ)). block ∷ ps) p.2 in
       let three : pieces 32 line ≡ name ∷ (block ∷ (p.0 ∷ p.1)) = named ∙ ap (λ (o : Option (Bor (List ℕ))). name ∷ pieces_in 32 o) more ∙ ap (λ (ps : List (List ℕ)). name ∷ ps) two in
-      write_of block byte.now p.0 p.1 p.2 ∙ ap (λ (n : List ℕ). by_words (n ∷ (block ∷ (p.0 ∷ p.1)))) (sym ((bytes_eq-Decides name (codes "write")).0 is)) ∙ ap by_words (sym three)
+      ap (λ (k : Option ℕ). write_with k b) number ∙ ap (write_with (number_of 65535 block)) fill
+      ∙ write_of block byte.now p.0 p.1 p.2 ∙ ap (λ (n : List ℕ). by_words (n ∷ (block ∷ (p.0 ∷ p.1)))) (sym ((bytes_eq-Decides name (codes "write")).0 is)) ∙ ap by_words (sym three)
 
+  -- no other name has words after it
   pub other_call : bytes_eq name (codes "read") ≡ false → bytes_eq name (codes "write") ≡ false → None ≡ call_of line
   other_call read write = let p = named_words in other_of name p.0 p.1 read write ∙ ap by_words (sym p.3)
