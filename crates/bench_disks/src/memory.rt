@@ -6,7 +6,6 @@ ghost use Rattle.bench_disks.specs.Holding.{put_wrote};
 
 use crate::holding::Holding;
 use disks::block::{Block, count_blocks, get_block, put_block};
-use disks::image::Image;
 
 #[derive(Drop)]
 pub struct Memory {
@@ -18,8 +17,6 @@ impl Memory {
         ensures items { result.bytes.items ≡ bytes.items }
         ensures bytes { (j : ℕ) → slice_index bytes.items j < 256 }
     {
-        // For the proof alone: what is known of an image is that its bytes are bytes.
-        let _image = Image::new(&bytes);
         Memory { bytes }
     }
 }

@@ -6,6 +6,7 @@ use benchrun::input::{INPUT_AT_MOST, run_input};
 use std::io::Read;
 use std::process::ExitCode;
 
+// As in plandiff; a crate for these lines alone would be no plainer.
 fn main(rt: HostRuntime) -> ExitCode {
     match run(&rt) {
         Ok(()) => ExitCode::SUCCESS,

@@ -38,7 +38,7 @@ image_proper s snd = record {
 }
 
 -- the answer of a read within the size, and of one past it
-abbrev pub answer : Image → ℕ → Bool → Shown
+abbrev answer : Image → ℕ → Bool → Shown
 answer s k within = cond within (Ok (block_of s.bytes.now k)) (Err PastEnd)
 
 pub image_reading : ReadLaw view_of Sound Reads

@@ -1,6 +1,5 @@
 // A reader over read-only bytes, such as a copy of a disk in a file.
 ghost use Rattle.std.specs.Prelude.{◌≡◌};
-ghost use Rattle.disks.specs.Meaning.{shown, Untouched};
 ghost use Rattle.disks.specs.Images.{view_of, Sound, Reads, KeepsMeaning};
 ghost use Rattle.disks.specs.ImageLaws.{image_proper, image_reading};
 
@@ -17,30 +16,13 @@ pub struct Image<'a> {
 
 impl<'a> Image<'a> {
     // Any bytes make an image.
+    #[tactic(auto, using(crate::proofs::Images::image_keeps))]
     pub fn new(bytes: &'a [u8]) -> Image<'a>
         ensures bytes { result.bytes.now ≡ bytes.now }
         ensures sound { Sound result }
         ensures keeps { KeepsMeaning }
     {
-        Image::over(bytes)
-    }
-
-    // A function of its own, since the check knows a slice to be bytes where it is handed on.
-    fn over(bytes: &'a [u8]) -> Image<'a>
-        ensures { result.bytes.now ≡ bytes.now }
-    {
         Image { bytes }
-    }
-
-    fn show(&self, block: u16, place: &mut Block) -> Result<(), Refusal>
-        ensures steps { Reads self.now block (shown result place.new) self.now }
-        ensures place { Untouched result place.old place.new }
-    {
-        if block >= count_blocks(self.bytes) {
-            return Err(Refusal::PastEnd);
-        }
-        copy_block(self.bytes, block, place);
-        Ok(())
     }
 }
 
@@ -68,6 +50,10 @@ impl<'a> Reader for Image<'a> {
     }
 
     fn read(&mut self, block: u16, place: &mut Block) -> Result<(), Refusal> {
-        self.show(block, place)
+        if block >= count_blocks(self.bytes) {
+            return Err(Refusal::PastEnd);
+        }
+        copy_block(self.bytes, block, place);
+        Ok(())
     }
 }

@@ -22,7 +22,7 @@ mod state;
 pub struct Pair<A, B> {
     side0: A,
     side1: B,
-    // Whether a restart has been done: until then the sides may differ.
+    // Whether a restart has been done: until then the sides may differ. They are there either way, so no Option holds them.
     joined: bool,
 }
 

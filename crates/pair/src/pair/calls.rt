@@ -50,7 +50,7 @@ impl<A: Disk, B: Disk> Pair<A, B> {
     }
 }
 
-// Calls a side unless it is dead. True if it answered dark.
+// Calls a side unless it is dead. True if it answered dark; its one caller answers by the pair's state, so no Result goes on from here.
 fn call_living<D: Disk, F: FnOnce(&mut D) -> Result<(), Refusal>>(side: &mut D, call: F) -> bool
     requires { F.IsAlwaysCallable call }
     ensures { Part (D.Reader.view side.old).state (CallOf F.FnOnce call side.old) side.old result side.new }
