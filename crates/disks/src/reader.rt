@@ -28,7 +28,7 @@ pub trait Reader {
     fn state(&self) -> State
         ensures { state_values result ≡ (view self.now).state };
 
-    // Puts the face of the block into the place.
+    // Puts the face of the block into the place. The place is the caller's, so each call that takes one says itself what a refusal leaves of it.
     fn read(&mut self, block: u16, place: &mut Block) -> Result<(), Refusal>
         ensures steps { reads self.old block (shown result place.new) self.new }
         ensures means { Means view sound self.old self.new (λ v w. ReadMeans v block (shown result place.new) w) }

@@ -18,6 +18,7 @@ pub enum Refusal {
 }
 
 impl Refusal {
+    // A part of the answer, with a law of its own, and so a method and no `From`.
     pub fn number(&self) -> u8
         ensures value { result ≡ (numbered (refusal_values self.now)).0 }
         ensures apart { TellsApart }

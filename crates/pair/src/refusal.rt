@@ -21,6 +21,7 @@ pub struct Unpaired<A, B> {
 }
 
 impl PairRefusal {
+    // A part of the answer, with a law of its own, and so a method and no `From`.
     pub fn number(&self) -> u8
         ensures value { result ≡ (pair_numbered self.now).0 }
         ensures apart { PairTellsApart }

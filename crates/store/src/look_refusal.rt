@@ -19,6 +19,7 @@ pub enum LookRefusal {
 }
 
 impl LookRefusal {
+    // A part of the answer, with a law of its own, and so a method and no `From`.
     pub fn number(&self) -> u8
         ensures value { result ≡ (look_numbered (look_refusal_values self.now)).0 }
         ensures apart { LookTellsApart }

@@ -31,6 +31,7 @@ pub enum StoreRefusal {
 }
 
 impl StoreRefusal {
+    // A part of the answer, with a law of its own, and so a method and no `From`.
     pub fn number(&self) -> u8
         ensures value { result ≡ (store_numbered (store_refusal_values self.now)).0 }
         ensures apart { StoreTellsApart }

@@ -61,7 +61,7 @@ fn call_living<D: Disk, F: FnOnce(&mut D) -> Result<(), Refusal>>(side: &mut D, 
     }
 }
 
-// Such an answer of a side ends the pair's call.
+// Such an answer of a side ends the pair's call, here and in a restart.
 pub(super) fn is_dark(answer: &Result<(), Refusal>) -> bool
     ensures { result ≡ is_dark (answer_values answer.now) }
 {
