@@ -14,6 +14,12 @@ state_by CutBefore c = Dark c
 state_by CutAfter c = Dark c
 state_by Kill c = Dead c
 
+-- what it makes of any state: a dead disk stays as it is
+abbrev pub changed_by : StateValues → Verb → CauseValues → StateValues
+changed_by On v c = state_by v c
+changed_by (Dark d) v c = state_by v c
+changed_by (Dead d) v c = Dead d
+
 -- what a step does to its call: whether the call has its effect, and then the pick of the cut, if one comes
 pub record Outcome : Type 0 where
   pub acts : Bool

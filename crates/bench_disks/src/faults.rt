@@ -2,7 +2,7 @@
 ghost use Rattle.std.specs.Prelude.{◌≡◌};
 ghost use Rattle.disks.specs.Values.{On, cause_values, state_values};
 ghost use Rattle.bench.specs.Schedules.{words_left};
-ghost use Rattle.bench_disks.specs.Faults.{state_by, outcome_of, step_for, meets, step_at_restart, restart_outcome};
+ghost use Rattle.bench_disks.specs.Faults.{changed_by, outcome_of, step_for, meets, step_at_restart, restart_outcome};
 
 use bench::schedule::{Schedule, Step, Verb};
 use disks::cause::{Call, Cause};
@@ -14,14 +14,17 @@ pub struct Faults {
     schedule: Schedule,
 }
 
-// The state that a verb leaves a living disk in.
-fn state_after(verb: Verb, cause: Cause) -> State
-    ensures { state_values result ≡ state_by verb (cause_values cause) }
+// What a verb makes of a disk's state; a dead disk stays as it is.
+fn change(state: &mut State, verb: Verb, cause: Cause)
+    ensures { state_values state.new ≡ changed_by (state_values state.old) verb (cause_values cause) }
 {
-    match verb {
-        Verb::Go => State::On,
-        Verb::CutBefore | Verb::CutAfter => State::Dark(cause),
-        Verb::Kill => State::Dead(cause),
+    match (*state, verb) {
+        (State::Dead(_), _) => {}
+        (State::On | State::Dark(_), Verb::Go) => *state = State::On,
+        (State::On | State::Dark(_), Verb::CutBefore | Verb::CutAfter) => {
+            *state = State::Dark(cause);
+        }
+        (State::On | State::Dark(_), Verb::Kill) => *state = State::Dead(cause),
     }
 }
 
@@ -51,7 +54,7 @@ impl Faults {
             return None;
         };
         let step = self.schedule.next_step();
-        self.state = state_after(step.verb, cause);
+        change(&mut self.state, step.verb, cause);
         Some(step)
     }
 
@@ -68,7 +71,7 @@ impl Faults {
             State::On => Some(step.pick),
             State::Dark(_) | State::Dead(_) => None,
         };
-        self.state = state_after(step.verb, Cause::at(Call::Restart));
+        change(&mut self.state, step.verb, Cause::at(Call::Restart));
         cut
     }
 }
