@@ -42,6 +42,7 @@ impl From<u32> for Step {
                 2 => Verb::CutAfter,
                 _ => Verb::Kill,
             },
+            // Its 16 bits.
             pick: ((word >> 14) % (1 << 16)) as u16,
         }
     }

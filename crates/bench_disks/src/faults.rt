@@ -67,10 +67,7 @@ impl Faults {
             return None;
         }
         let step = self.schedule.next_step();
-        let cut = match self.state {
-            State::On => Some(step.pick),
-            State::Dark(_) | State::Dead(_) => None,
-        };
+        let cut = matches!(self.state, State::On).then_some(step.pick);
         change(&mut self.state, step.verb, Cause::at(Call::Restart));
         cut
     }

@@ -38,6 +38,7 @@ pub fn first_difference(address: u16, old: &Block, new: &Block) -> Option<Differ
     let offset = first_unequal(old, new)?;
     Some(Difference {
         address,
+        // A block has 512 bytes, so that none is left to fail.
         offset: offset as u16,
         old: old[offset],
         new: new[offset],

@@ -23,7 +23,7 @@ impl fmt::Display for Side {
 }
 
 // That side's look at the address was refused.
-#[derive(Clone, Copy, Debug)]
+#[derive(Clone, Copy, Debug, PartialEq, Eq)]
 pub struct Stop {
     pub address: u16,
     pub side: Side,

@@ -18,7 +18,7 @@ pub enum Call {
 }
 
 impl Call {
-    // The number by which text names the call.
+    // The number by which the text of a cause names the call, and so a method and no `From`.
     pub fn number(self) -> u8
         ensures { result ≡ call_number (Some self) }
     {

@@ -9,7 +9,7 @@ pub enum Side {
 }
 
 impl Side {
-    // The number by which a trail names the side.
+    // The number by which the text of a trail names the side, and so a method and no `From`.
     pub fn number(self) -> u8
         ensures { result ≡ side_number self }
     {

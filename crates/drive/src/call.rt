@@ -20,7 +20,7 @@ pub fn parse_call(line: &[u8]) -> Option<DiskCall>
     ensures { result ≡ call_of line.now }
 {
     let (name, after) = split_first(line, b' ');
-    // A word too many makes no number of the last, since a space is no digit.
+    // By `is_word` and not by byte strings in the patterns: of those the proof did not close. A word too many makes no number of the last, since a space is no digit.
     match after {
         None if is_word(name, b"barrier") => Some(DiskCall::Barrier),
         None if is_word(name, b"restart") => Some(DiskCall::Restart),
@@ -32,6 +32,7 @@ pub fn parse_call(line: &[u8]) -> Option<DiskCall>
             let (block, byte) = split_first(words, b' ');
             let number = parse_number(block, u16::MAX)?;
             let fill = parse_number(byte?, 255)?;
+            // At most 255.
             Some(DiskCall::Write(number, fill as u8))
         }
         _ => None,

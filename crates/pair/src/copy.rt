@@ -15,7 +15,8 @@ pub(crate) enum CopyStop {
     Ended,
 }
 
-// From and to stay apart: one is only read, and a struct of both would be taken apart at once. The barrier lets the copied blocks stand. If the source died, it is due too: the other disk is all there is then.
+// The barrier lets the copied blocks stand. If the source died, it is due too: the other disk is all there is then.
+// The disks are two parameters: one is only read, and a struct of both would be taken apart at once.
 pub(crate) fn copy_over<A: Disk, B: Disk>(from: &mut A, to: &mut B)
     ensures { CopiesOver A.Reader B.Disk.own from.old to.old from.new to.new }
 {

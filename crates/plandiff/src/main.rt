@@ -24,6 +24,7 @@ enum Failure {
     Output,
 }
 
+// As in diskrun; a crate for these lines alone would be no plainer.
 fn main(rt: HostRuntime) -> ExitCode {
     match run(&rt) {
         Ok(()) => ExitCode::SUCCESS,

@@ -13,6 +13,7 @@ pub fn split_first(text: &[u8], divider: u8) -> (&[u8], Option<&[u8]>)
     }
 }
 
+// The parsers that match by guards call it, so that `==` on bytes has one name.
 pub fn is_word(text: &[u8], word: &[u8]) -> bool
     ensures { result ≡ bytes_eq text.now word.now }
 {

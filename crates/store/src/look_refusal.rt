@@ -6,7 +6,7 @@ ghost use Rattle.store.specs.declared.look_refusal.LookRefusal.TheVariants.{Disk
 use disks::refusal::Refusal;
 use std::fmt;
 
-#[derive(Clone, Copy, Debug)]
+#[derive(Clone, Copy, Debug, PartialEq, Eq)]
 pub enum LookRefusal {
     // 1, 2 or 3: what the reader answered.
     Disk(Refusal),

@@ -43,6 +43,7 @@ fn copy_home<D: Disk>(disk: &mut D, log: &[u16]) -> Result<(), Refusal>
     requires low { (i : ℕ) → i < length log.now → slice_index log.now i < 4096 }
     ensures { copying_home D.Reader D.Disk.own 1 log.now disk.old (answer_values result) disk.new }
 {
+    // A log has at most 32 addresses, so its places are no wider than a block's number.
     for (i, address) in log.iter().enumerate() {
         copy_block(disk, 1 + i as u16, FIRST_HOME + *address)?;
     }

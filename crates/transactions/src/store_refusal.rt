@@ -8,7 +8,8 @@ use disks::refusal::Refusal;
 use std::fmt;
 use store::look_refusal::LookRefusal;
 
-#[derive(Clone, Copy, Debug)]
+// It names what look refuses too, and does not hold a `LookRefusal`: a caller matches on one kind of answer, with no layer between.
+#[derive(Clone, Copy, Debug, PartialEq, Eq)]
 pub enum StoreRefusal {
     // 1, 2 or 3: what the disk answered; 1 only of a disk that does not keep the meaning of one.
     Disk(Refusal),

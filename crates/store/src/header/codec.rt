@@ -25,8 +25,10 @@ impl Header {
         let mut out = [0u8; BLOCK_BYTES];
         out[..2].copy_from_slice(&MARK);
         out[2..4].copy_from_slice(&(LAYOUT + (self.n - 1)).to_be_bytes());
+        // At most 32.
         out[4] = self.log.addresses().len() as u8 * 4;
         let (pairs, _) = self.log.fields().as_chunks::<2>();
+        // By their places, here and in `read_fields`: of what a zip with `iter_mut` writes a proof learns nothing.
         for (g, pair) in pairs.iter().enumerate() {
             out[5 + 3 * g..8 + 3 * g].copy_from_slice(&pack_pair(pair));
         }

@@ -93,6 +93,7 @@ impl Log {
         ensures value { (d : ℕ) → unwrap_or result d ≡ newest 1 self.now address d }
         ensures newest { Newest self.now address result }
     {
+        // At most 32, so that the length of what is left is no wider than a slot's number.
         let mut log = self.addresses();
         loop {
             match log {

@@ -30,9 +30,7 @@ impl<D: Disk> Store<D> {
             return Err(StoreRefusal::NoTicket);
         }
         self.check_address(address)?;
-        let Some(block) = self.note(address) else {
-            return Err(StoreRefusal::LogFull);
-        };
+        let block = self.note(address).ok_or(StoreRefusal::LogFull)?;
         let work = self.disk.write(block, content);
         self.answer(work)
     }
@@ -58,6 +56,7 @@ impl<D: Disk> Store<D> {
         if let Some(block) = self.open_slot(address) {
             return Some(block);
         }
+        // A log has at most 32 addresses, so its length is no wider than a block's number.
         let added = self.table.push(address);
         added.then(|| self.table.log().len() as u16)
     }
@@ -68,6 +67,6 @@ impl<D: Disk> Store<D> {
     {
         self.table
             .slot_of(address)
-            .filter(|slot| *slot as usize > self.logged)
+            .filter(|slot| usize::from(*slot) > self.logged)
     }
 }

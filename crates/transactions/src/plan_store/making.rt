@@ -37,6 +37,7 @@ impl<D: Disk> Store<D> {
         if self.phase.ticket_out() {
             return Err(StoreRefusal::TicketOut);
         }
+        // Not `ok_or`, as in a restart: with it the proof of the steps did not close.
         let Some(header) = Header::for_size(self.disk.size()) else {
             return Err(StoreRefusal::UnfitSize);
         };

@@ -20,9 +20,7 @@ impl<D: Disk> Store<D> {
         if self.phase.ticket_out() {
             return Err(StoreRefusal::TicketOut);
         }
-        let Some(n) = plan_size(self.disk.size()) else {
-            return Err(StoreRefusal::UnfitSize);
-        };
+        let n = plan_size(self.disk.size()).ok_or(StoreRefusal::UnfitSize)?;
         let recovery = recover(&mut self.disk, n);
         let header = self.answer(recovery)?;
         self.come_up(header);
