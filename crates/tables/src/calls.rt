@@ -14,10 +14,7 @@ use std::process::Abort;
 pub type Row = (Call, u8, u8);
 
 pub fn number_of(answer: Result<(), Refusal>) -> u8 {
-    match answer {
-        Ok(()) => 0,
-        Err(refusal) => refusal.number(),
-    }
+    answer.err().map_or(0, |e| e.number())
 }
 
 // Makes the calls and checks each answer; a refused read leaves the place at 255.
@@ -47,12 +44,7 @@ pub fn plain(heap: Global, length: u32, words: &[u32]) -> Result<Plain, AllocErr
 }
 
 pub fn buffered(heap: Global, length: u32, words: &[u32]) -> Result<Buffered, AllocError> {
-    match Buffered::new(
-        heap,
-        filled(heap, &[], length)?,
-        Schedule::new(words.to_vec(heap)?),
-    ) {
-        Ok(disk) => Ok(disk),
-        Err(_) => Err(AllocError),
-    }
+    let memory = filled(heap, &[], length)?;
+    let schedule = Schedule::new(words.to_vec(heap)?);
+    Buffered::new(heap, memory, schedule).map_err(|_| AllocError)
 }

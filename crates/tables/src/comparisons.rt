@@ -1,11 +1,14 @@
 // Comparisons of small stores, and the text of every refusal.
 use crate::sample::filled;
+use compare::comparison::Comparison;
 use compare::images::compare_images;
 use compare::report::{report, stop_line, unreadable_line};
 use compare::room::Room;
 use compare::stop::{Side, Stop};
 use disks::cause::{Call, Cause};
 use disks::refusal::Refusal;
+use disks::side::Side as PairSide;
+use std::alloc::Global;
 use std::test::Fail;
 use store::look_refusal::LookRefusal;
 
@@ -14,22 +17,23 @@ fn header(n: u8) -> [u8; 4] {
     [0xB1, 0x0C, 0x10, n.saturating_sub(1)]
 }
 
+fn compared(heap: Global, old: &[u8], new: &[u8]) -> Result<Comparison, Fail> {
+    let answer = compare_images(Room::new(heap)?, old, new).ok();
+    Ok(answer.ok_or("refused")?)
+}
+
 #[test]
 fn differences_are_told(rt: HostRuntime) -> Result<(), Fail> {
     let heap = rt.alloc();
     let old = filled(heap, &header(3), 36 * 512)?;
     let mut new = filled(heap, &header(3), 36 * 512)?;
-    let same = compare_images(Room::new(heap)?, &old, &new)
-        .ok()
-        .ok_or("refused")?;
+    let same = compared(heap, &old, &new)?;
     assert_eq!(rt; report(heap, &same)?.as_str(), "3 compared, 0 differ\n");
     assert!(rt; new.len() == 36 * 512);
     new[33 * 512 + 511] = 1;
     new[35 * 512 + 7] = 255;
     new[35 * 512 + 8] = 1;
-    let changed = compare_images(Room::new(heap)?, &old, &new)
-        .ok()
-        .ok_or("refused")?;
+    let changed = compared(heap, &old, &new)?;
     assert_eq!(rt;
         report(heap, &changed)?.as_str(),
         "0 511 0 1\n2 7 0 255\n3 compared, 2 differ\n"
@@ -42,16 +46,12 @@ fn longer_plans_are_told(rt: HostRuntime) -> Result<(), Fail> {
     let heap = rt.alloc();
     let short = filled(heap, &header(3), 36 * 512)?;
     let long = filled(heap, &header(5), 38 * 512)?;
-    let longer = compare_images(Room::new(heap)?, &short, &long)
-        .ok()
-        .ok_or("refused")?;
+    let longer = compared(heap, &short, &long)?;
     assert_eq!(rt;
         report(heap, &longer)?.as_str(),
         "3-4 only in NEW\n3 compared, 0 differ\n"
     );
-    let shorter = compare_images(Room::new(heap)?, &long, &short)
-        .ok()
-        .ok_or("refused")?;
+    let shorter = compared(heap, &long, &short)?;
     assert_eq!(rt;
         report(heap, &shorter)?.as_str(),
         "3-4 only in OLD\n3 compared, 0 differ\n"
@@ -59,20 +59,24 @@ fn longer_plans_are_told(rt: HostRuntime) -> Result<(), Fail> {
     Ok(())
 }
 
-#[test]
-fn refusals_are_told(rt: HostRuntime) -> Result<(), Fail> {
-    let cause = Cause::at(Call::Write(5)).under(disks::side::Side::One);
-    let table: [(LookRefusal, &str); 6] = [
+// A cause with a call and a side, which the lines leave out.
+fn cause() -> Cause {
+    Cause::at(Call::Write(5)).under(PairSide::One)
+}
+
+// Each refusal of a look, and its line for the store that `a b` names.
+fn refusals() -> [(LookRefusal, &'static str); 6] {
+    [
         (
             LookRefusal::Disk(Refusal::PastEnd),
             "plandiff: a b: 1: block at or past the size",
         ),
         (
-            LookRefusal::Disk(Refusal::Dark(cause)),
+            LookRefusal::Disk(Refusal::Dark(cause())),
             "plandiff: a b: 2: disk dark",
         ),
         (
-            LookRefusal::Disk(Refusal::Lost(cause)),
+            LookRefusal::Disk(Refusal::Lost(cause())),
             "plandiff: a b: 3: lost: disk dead",
         ),
         (
@@ -87,8 +91,12 @@ fn refusals_are_told(rt: HostRuntime) -> Result<(), Fail> {
             LookRefusal::PastPlan,
             "plandiff: a b: 12: address at or past N",
         ),
-    ];
-    for (refusal, line) in table {
+    ]
+}
+
+#[test]
+fn refusals_are_told(rt: HostRuntime) -> Result<(), Fail> {
+    for (refusal, line) in refusals() {
         let old = Stop {
             address: 0,
             side: Side::Old,
@@ -113,12 +121,8 @@ fn longest_plans(rt: HostRuntime) -> Result<(), Fail> {
     let heap = rt.alloc();
     let old = filled(heap, &[0xB1, 0x0C, 0x1F, 0xFF], 4129 * 512)?;
     let mut new = filled(heap, &[0xB1, 0x0C, 0x1F, 0xFF], 33 * 512)?;
-    for _ in 0..4096 * 512u32 {
-        new.push(1)?;
-    }
-    let all = compare_images(Room::new(heap)?, &old, &new)
-        .ok()
-        .ok_or("refused")?;
+    new.resize(4129 * 512, 1)?;
+    let all = compared(heap, &old, &new)?;
     assert_eq!(rt; all.compared, 4096);
     assert_eq!(rt; all.differences.len(), 4096);
     let text = report(heap, &all)?;

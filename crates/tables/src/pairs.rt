@@ -17,10 +17,7 @@ type Low = Pair<Plain, Buffered>;
 type High = Pair<Low, Buffered>;
 
 fn join<A: Disk + Drop, B: Disk + Drop>(side0: A, side1: B) -> Result<Pair<A, B>, Fail> {
-    match Pair::new(side0, side1) {
-        Ok(pair) => Ok(pair),
-        Err(_) => Err(Fail::new("no pair")),
-    }
+    Pair::new(side0, side1).map_err(|_| Fail::new("no pair"))
 }
 
 // Two blocks of zeros on each side.
@@ -177,23 +174,19 @@ fn read_back<D: Disk>(rt: &impl Abort, disk: &mut D, block: u16) -> Result<u8, F
     Ok(place[511])
 }
 
-fn only_if(here: bool, words: &[u32]) -> &[u32] {
-    if here { words } else { &words[0..0] }
-}
-
 // Each bottom disk of a pile of height 2, cut or killed at each of its first steps.
 #[test]
 fn pile_of_height_two(rt: HostRuntime) -> Result<(), Fail> {
     for verb in [0x40000000u32, 0x80000000, 0xC0000000] {
         for gap in 0..24 {
-            let event = [verb + gap];
-            for bottom in 0..3u8 {
-                let side0 = low(
-                    rt.alloc(),
-                    only_if(bottom == 0, &event),
-                    only_if(bottom == 1, &event),
-                )?;
-                let side1 = buffered(rt.alloc(), 1024, only_if(bottom == 2, &event))?;
+            let event: &[u32] = &[verb + gap];
+            for [words0, words1, words2] in [
+                [event, &[], &[]],
+                [&[], event, &[]],
+                [&[], &[], event],
+            ] {
+                let side0 = low(rt.alloc(), words0, words1)?;
+                let side1 = buffered(rt.alloc(), 1024, words2)?;
                 let mut pile: High = join(side0, side1)?;
                 write_through(&rt, &mut pile)?;
             }
