@@ -95,6 +95,7 @@ fn before_and_after(rt: HostRuntime) -> Result<(), Fail> {
         (Call::Restart, 0, 3),
         (Call::Read(2), 0, 1),
         (Call::Read(0), 0, 3),
+        (Call::Write(0), 6, 3),
         (Call::Barrier, 0, 3),
     ];
     play(&rt, &mut plain(rt.alloc(), 1024, &words)?, &rows);
@@ -123,23 +124,23 @@ fn refused_calls_take_no_step(rt: HostRuntime) -> Result<(), Fail> {
 #[test]
 fn sizes(rt: HostRuntime) -> Result<(), Fail> {
     for (length, size) in [(0, 0), (511, 0), (512, 1), (1030, 2), (65536 * 512, 65535)] {
+        let last = u16::saturating_sub(size, 1);
+        let answer = if size == 0 { 1 } else { 0 };
+        let rows = [
+            (Call::Write(size), 9, 1),
+            (Call::Write(last), 9, answer),
+            (Call::Read(last), 9, answer),
+        ];
         let mut disk = plain(rt.alloc(), length, &[])?;
         assert_eq!(rt; disk.size(), size);
-        play(
-            &rt,
-            &mut disk,
-            &[
-                (Call::Write(size), 9, 1),
-                (
-                    Call::Write(size.saturating_sub(1)),
-                    9,
-                    if size == 0 { 1 } else { 0 },
-                ),
-            ],
-        );
+        play(&rt, &mut disk, &rows);
         let memory = disk.into_memory();
         assert_eq!(rt; memory.len(), length as usize);
-        assert_eq!(rt; buffered(rt.alloc(), length, &[])?.size(), size);
+        // A block past the size is never touched.
+        assert_eq!(rt; memory.get(65535 * 512).copied().unwrap_or(0), 0);
+        let mut disk = buffered(rt.alloc(), length, &[])?;
+        assert_eq!(rt; disk.size(), size);
+        play(&rt, &mut disk, &rows);
     }
     Ok(())
 }

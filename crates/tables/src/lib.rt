@@ -14,4 +14,6 @@ mod looks;
 #[cfg(test)]
 mod pairs;
 #[cfg(test)]
+mod piles;
+#[cfg(test)]
 mod sample;

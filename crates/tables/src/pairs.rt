@@ -12,16 +12,16 @@ use std::alloc::Global;
 use std::process::Abort;
 use std::test::Fail;
 
-type Low = Pair<Plain, Buffered>;
+pub type Low = Pair<Plain, Buffered>;
 
-type High = Pair<Low, Buffered>;
+pub type High = Pair<Low, Buffered>;
 
-fn join<A: Disk + Drop, B: Disk + Drop>(side0: A, side1: B) -> Result<Pair<A, B>, Fail> {
+pub fn join<A: Disk + Drop, B: Disk + Drop>(side0: A, side1: B) -> Result<Pair<A, B>, Fail> {
     Pair::new(side0, side1).map_err(|_| Fail::new("no pair"))
 }
 
 // Two blocks of zeros on each side.
-fn low(heap: Global, words0: &[u32], words1: &[u32]) -> Result<Low, Fail> {
+pub fn low(heap: Global, words0: &[u32], words1: &[u32]) -> Result<Low, Fail> {
     join(plain(heap, 1024, words0)?, buffered(heap, 1024, words1)?)
 }
 
@@ -133,6 +133,7 @@ fn trail_of_two_sides(rt: HostRuntime) -> Result<(), Fail> {
     assert_eq!(rt; pile.height(), 2);
     let cause = Cause::at(Call::Restart).under(Side::One).under(Side::Zero);
     assert_eq!(rt; pile.restart(), Err(Refusal::Dark(cause)));
+    assert_eq!(rt; format!(in rt.alloc(); "{cause}")?.as_str(), "4 0 01");
     assert_eq!(rt; number_of(pile.restart()), 0);
     Ok(())
 }
