@@ -1,6 +1,6 @@
 // When a bench disk fails. Each call that meets a living disk takes one step of its schedule.
 ghost use Rattle.std.specs.Prelude.{◌≡◌};
-ghost use Rattle.bench.specs.Schedules.{words_left, step_of, step_from, SpelledOut};
+ghost use Rattle.bench.specs.Schedules.{step_of};
 
 use std::collections::VecDeque;
 
@@ -56,35 +56,6 @@ pub struct Schedule {
     words: VecDeque<u32>,
 }
 
-impl Schedule {
-    // Any words make a schedule.
-    pub fn new(words: Vec<u32>) -> Schedule
-        ensures words { words_left result ≡ words.items }
-    {
-        Schedule {
-            words: VecDeque::from_vec(words),
-        }
-    }
-
-    #[tactic(auto, using(crate::proofs::Spelled::spelled_out))]
-    pub fn next_step(&mut self) -> Step
-        ensures step { (result, words_left self.new) ≡ step_from (words_left self.old) }
-        ensures law { SpelledOut }
-    {
-        let Some(word) = self.words.front_mut() else {
-            return Step::EMPTY;
-        };
-        let gap = *word % (1 << 14);
-        if gap > 0 {
-            // The gap is the low bits, so a word with one empty step less is one less.
-            *word -= 1;
-            return Step::EMPTY;
-        }
-        let step = Step::from(*word);
-        self.words.pop_front();
-        step
-    }
-}
-
+pub mod steps;
 #[cfg(test)]
 mod tests;

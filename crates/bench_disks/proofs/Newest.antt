@@ -1,24 +1,17 @@
--- The newest of some writes to a block, as a search from the back of a queue finds it.
-use Rattle.std.proofs.Common.{◌≡◌, ℕ, Bool, true, false, cond, List, [], ◌∷◌, reverse, Some, None, Option, Bor, refl, sym, ap, subst, ◌∙◌, ◌==◌}
-use Rattle.std.proofs.lemmas.Iterator.{YieldsList}
-use Rattle.std.proofs.lemmas.Iterator.Consumers.{YieldsList-from_shown}
-use Rattle.std.proofs.lemmas.List.{length-reverse, reverse-append}
+-- The newest of some writes to a block, as a search from the back finds it.
+use Rattle.std.proofs.Common.{◌≡◌, ℕ, Bool, true, false, cond, List, [], ◌∷◌, ◌++◌, reverse, Some, None, Option, Bor, refl, sym, ap, ◌∙◌, ◌==◌}
+use Rattle.std.proofs.lemmas.List.{reverse-append}
 use Rattle.std.proofs.lemmas.List.Folds.{find-append}
-use Rattle.std.specs.Iterator.Adapters.{rev_source, rev_steps}
 use Rattle.std.specs.List.{find}
 use Rattle.std.specs.Option.{option_map, option_map_or, option_or}
-use Rattle.std.specs.VecDeque.Iter.{deque_iter_rest, deque_iter_steps_back}
-use Rattle.std.specs.declared.collections.vec_deque.Iter.{Iter}
-use Rattle.std.specs.declared.iter.Rev.{Rev}
 use Rattle.disks.specs.Meaning.{Content}
 use Rattle.bench_disks.specs.declared.waiting.WaitingWrite.{WaitingWrite}
 use Rattle.bench_disks.specs.Waiting.{newest}
 
--- a queue's items from its back
-pub from_back : {A : Type 0} {s : Rev (Iter A)} (xs : List A) → deque_iter_rest (rev_source s) ≡ xs → YieldsList (rev_steps (deque_iter_steps_back {X = A})) (λ y. y.now) s (reverse xs)
-from_back {A} {s} xs e = subst (λ k. YieldsList (rev_steps (deque_iter_steps_back {X = A})) (λ y. y.now) s (reverse k)) e
-    (YieldsList-from_shown (rev_steps (deque_iter_steps_back {X = A})) (λ y. y.now) (λ u. reverse (deque_iter_rest (rev_source u))) (λ u t p. length-reverse _ ∙ p.0)
-    (λ u x t p. ap reverse p ∙ reverse-append (deque_iter_rest (rev_source t)) (x.now ∷ [])) s)
+-- a write is newer than those before it
+pub newest_append : (xs ys : List WaitingWrite) (k : ℕ) (b : Content) → newest (xs ++ ys) k b ≡ newest ys k (newest xs k b)
+newest_append [] ys k b = refl
+newest_append (x ∷ xs) ys k b = newest_append xs ys k (cond (x.block == k) x.content b)
 
 module _ (k : ℕ) where
   abbrev to_block : WaitingWrite → Bool

@@ -66,7 +66,7 @@ stand_block (w ∷ ws) m k h =
     stand_block ws (with_block m w.block w.content) k (subst (λ (n : ℕ). WholeWrites n ws) (sym e) h.2) ∙ ap (newest ws k) (block_with m w.block w.content k h.0 h.1)
 
 -- one write more, the newest
-newest_push : (ws : List WaitingWrite) (w : WaitingWrite) (k : ℕ) (b : Content) → newest (ws ++ w ∷ []) k b ≡ cond (w.block == k) w.content (newest ws k b)
+pub newest_push : (ws : List WaitingWrite) (w : WaitingWrite) (k : ℕ) (b : Content) → newest (ws ++ w ∷ []) k b ≡ cond (w.block == k) w.content (newest ws k b)
 newest_push [] w k b = refl
 newest_push (x ∷ ws) w k b = newest_push ws w k (cond (x.block == k) x.content b)
 

@@ -15,6 +15,7 @@ use bench::schedule::Verb;
 use disks::block::Block;
 use disks::cause::{Call, Cause};
 use disks::disk::Disk;
+use disks::lawful_reader::LawfulReader;
 use disks::reader::Reader;
 use disks::refusal::Refusal;
 use disks::state::State;
@@ -35,6 +36,7 @@ impl<H: Holding> BenchDisk<H> {
     }
 
     // Takes the step of a read, a write or a barrier, which goes on to its effect, is cut before or after it, or dies before it.
+    #[inline(always)]
     fn call<F: FnOnce(&mut H) + Drop>(&mut self, cause: Cause, effect: F) -> Result<(), Refusal>
         requires { FnOnceTakesAtMut F.FnOnce effect self.old.held }
         ensures { (f : Held → Held) → HasEffect H.held F.FnOnce effect f self.old.held → (answer_values result, bench_of H.held self.new) ≡ answered tt (called (cause_values cause) f (bench_of H.held self.old)) }
@@ -61,10 +63,6 @@ impl<H: Holding> Reader for BenchDisk<H> {
 
     ghost reads = { λ s k x t. (x, bench_of H.held t) ≡ reads_of k (bench_of H.held s) };
 
-    ghost proper = { λ s snd. bench_proper (bench_of H.held s) snd };
-
-    ghost reading = { λ s t k x h snd. read_law (bench_of H.held s) (bench_of H.held t) snd k x h };
-
     fn size(&self) -> u16 {
         self.held.size()
     }
@@ -77,14 +75,24 @@ impl<H: Holding> Reader for BenchDisk<H> {
         self.faults.state()
     }
 
+    // So that a block is not copied once more on its way; here and at the write.
+    #[inline(always)]
     fn read(&mut self, block: u16, place: &mut Block) -> Result<(), Refusal> {
         if block >= self.held.size() {
             return Err(Refusal::PastEnd);
         }
-        self.call(Cause::at(Call::Read(block)), |_| {})?;
-        self.held.face(block, place);
-        Ok(())
+        let answer = self.call(Cause::from(Call::Read(block)), |_| {});
+        if answer.is_ok() {
+            self.held.face(block, place);
+        }
+        answer
     }
+}
+
+impl<H: Holding> LawfulReader for BenchDisk<H> {
+    ghost proper = { λ s snd. bench_proper (bench_of H.held s) snd };
+
+    ghost reading = { λ s t k x h snd. read_law (bench_of H.held s) (bench_of H.held t) snd k x h };
 }
 
 impl<H: Holding> Disk for BenchDisk<H> {
@@ -104,18 +112,19 @@ impl<H: Holding> Disk for BenchDisk<H> {
 
     ghost losing = { λ s snd. refl };
 
+    #[inline(always)]
     fn write(&mut self, block: u16, content: &Block) -> Result<(), Refusal> {
         if block >= self.held.size() {
             return Err(Refusal::PastEnd);
         }
         self.call(
-            Cause::at(Call::Write(block)),
+            Cause::from(Call::Write(block)),
             |held| held.write(block, content),
         )
     }
 
     fn barrier(&mut self) -> Result<(), Refusal> {
-        self.call(Cause::at(Call::Barrier), |held| held.flush())
+        self.call(Cause::from(Call::Barrier), |held| held.flush())
     }
 
     fn restart(&mut self) -> Result<(), Refusal> {

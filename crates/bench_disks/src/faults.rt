@@ -68,7 +68,7 @@ impl Faults {
         }
         let step = self.schedule.next_step();
         let cut = matches!(self.state, State::On).then_some(step.pick);
-        change(&mut self.state, step.verb, Cause::at(Call::Restart));
+        change(&mut self.state, step.verb, Cause::from(Call::Restart));
         cut
     }
 }

@@ -27,7 +27,7 @@ module _ {S : Type 0} (R : Reader.Ghosts S) (D : Disk.Ghosts S) (bench : S → B
   then_so None ls s t text whole on r = (r.0, r.1, ap bench r.2)
   then_so (Some c) ls s t text whole on r = (bench r.0, r.1, r.2, makes_so c s r.0 r.1 r.3, on r.0 r.2 r.4, r.5)
 
-  runs_so : (ls : List (List ℕ)) (s t : S) (text : List ℕ) (whole : Bool) → Runs R D ls s text whole t → RunsOnBench effect ls (bench s) text whole (bench t)
+  pub runs_so : (ls : List (List ℕ)) (s t : S) (text : List ℕ) (whole : Bool) → Runs R D ls s text whole t → RunsOnBench effect ls (bench s) text whole (bench t)
   runs_so [] s t text whole r = (r.0, r.1, ap bench r.2)
   runs_so (l ∷ ls) s t text whole r = then_so (call_of l) ls s t text whole (λ m rest x. runs_so ls m t rest whole x) r
 

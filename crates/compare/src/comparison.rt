@@ -92,15 +92,11 @@ fn look_at<R: Reader>(
     ensures looks { LooksMeant R.Reader reader.old address (looked_at result place.new) reader.new }
     ensures stop { IfErr result (λ s. (s.address ≡ address) × (s.side ≡ side)) }
 {
-    // Not `map_err`: the check has no proof for a closure that is handed a look's refusal here.
-    match look(reader, address, place) {
-        Ok(()) => Ok(()),
-        Err(refusal) => Err(Stop {
-            address,
-            side,
-            refusal,
-        }),
-    }
+    look(reader, address, place).map_err(|refusal| Stop {
+        address,
+        side,
+        refusal,
+    })
 }
 
 // At least one, so that what is no store is met by a look.

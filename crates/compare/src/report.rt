@@ -47,7 +47,8 @@ pub fn stop_line(
         Side::New => new_file,
     };
     let number = refusal.number();
-    format!(in heap; "plandiff: {file}: {number}: {refusal}")
+    let meaning = refusal.meaning();
+    format!(in heap; "plandiff: {file}: {number}: {meaning}")
 }
 
 // The line for a file that cannot be read.

@@ -1,12 +1,22 @@
 // Why a disk is dark or dead.
 ghost use Rattle.std.specs.Prelude.{◌≡◌, Some};
-ghost use Rattle.disks.specs.Values.{call_number, call_block, side_number, cause_values};
+ghost use Rattle.disks.specs.Values.{call_number, call_block, cause_values};
 ghost use Rattle.disks.specs.Trails.{cause_at, cause_under, unjoined_cause};
 ghost use Rattle.disks.specs.Text.{cause_text};
 
-use crate::side::Side;
 use crate::trail::Trail;
 use std::fmt;
+
+// The calls of a cause, by their numbers.
+pub const NOT_JOINED: u8 = 0;
+
+pub const READ: u8 = 1;
+
+pub const WRITE: u8 = 2;
+
+pub const BARRIER: u8 = 3;
+
+pub const RESTART: u8 = 4;
 
 // A call of a disk, with its block where it has one.
 #[derive(Clone, Copy, Debug, PartialEq, Eq)]
@@ -18,21 +28,21 @@ pub enum Call {
 }
 
 impl Call {
-    // The number by which the text of a cause names the call, and so a method and no `From`.
+    // The number by which a cause and its text name the call, and so a method and no `From`.
     pub fn number(self) -> u8
-        ensures { result ≡ call_number (Some self) }
+        ensures { result ≡ call_number self }
     {
         match self {
-            Call::Read(_) => 1,
-            Call::Write(_) => 2,
-            Call::Barrier => 3,
-            Call::Restart => 4,
+            Call::Read(_) => READ,
+            Call::Write(_) => WRITE,
+            Call::Barrier => BARRIER,
+            Call::Restart => RESTART,
         }
     }
 
-    // The block that text tells with it; 0 for a barrier and a restart.
+    // The block that goes with it; 0 for a barrier and a restart.
     pub fn block(self) -> u16
-        ensures { result ≡ call_block (Some self) }
+        ensures { result ≡ call_block self }
     {
         match self {
             Call::Read(block) | Call::Write(block) => block,
@@ -41,21 +51,25 @@ impl Call {
     }
 }
 
+// Plain numbers, so that a caller can print them or send them on, and so that any numbers make one.
 #[derive(Clone, Copy, Debug, PartialEq, Eq)]
 pub struct Cause {
-    // The call that met the cut or the death; none if none did, since a pair is not joined.
-    pub call: Option<Call>,
+    // The number of the call that met the cut or the death; `NOT_JOINED` if none did, since a pair is not joined.
+    pub call: u8,
+    // The block of that call; 0 where it has none.
+    pub block: u16,
     // The way from the top pair down to the disk that met it.
     pub trail: Trail,
 }
 
 impl Cause {
     // The call itself met the cut or the death, so the trail is empty.
-    pub fn at(call: Call) -> Cause
-        ensures { cause_values result ≡ cause_at (call_number (Some call)) (call_block (Some call)) }
+    pub fn at(call: u8, block: u16) -> Cause
+        ensures { cause_values result ≡ cause_at call block }
     {
         Cause {
-            call: Some(call),
+            call,
+            block,
             trail: Trail::EMPTY,
         }
     }
@@ -64,20 +78,27 @@ impl Cause {
     pub fn unjoined() -> Cause
         ensures { cause_values result ≡ unjoined_cause }
     {
-        Cause {
-            call: None,
-            trail: Trail::EMPTY,
-        }
+        Cause::at(NOT_JOINED, 0)
     }
 
     // The cause as the pair gives it whose side the disk is.
-    pub fn under(self, side: Side) -> Cause
-        ensures { cause_values result ≡ cause_under (side_number side) (cause_values self) }
+    pub fn under(self, side: u8) -> Cause
+        ensures { cause_values result ≡ cause_under side (cause_values self) }
     {
         Cause {
             call: self.call,
+            block: self.block,
             trail: self.trail.under(side),
         }
+    }
+}
+
+// As `Cause::at`, by the call.
+impl From<Call> for Cause {
+    ghost from_gives = { λ call cause. cause_values cause ≡ cause_at (call_number call) (call_block call) };
+
+    fn from(call: Call) -> Cause {
+        Cause::at(call.number(), call.block())
     }
 }
 
@@ -85,8 +106,6 @@ impl fmt::Display for Cause {
     ghost output = { λ c. Some (cause_text (cause_values c)) };
 
     fn fmt<W: fmt::Write>(&self, f: &mut fmt::Formatter<W>) -> fmt::Result {
-        let number = self.call.map_or(0, Call::number);
-        let block = self.call.map_or(0, Call::block);
-        write!(f, "{number} {block} {}", self.trail)
+        write!(f, "{} {} {}", self.call, self.block, self.trail)
     }
 }

@@ -6,10 +6,10 @@ ghost use Rattle.disks.specs.Meaning.{WriteLaw, BarrierLaw, RestartLaw};
 ghost use Rattle.disks.specs.Piles.{Tree, is_dead, lost as lost_tree};
 
 use crate::block::Block;
-use crate::reader::Reader;
+use crate::lawful_reader::LawfulReader;
 use crate::refusal::Refusal;
 
-pub trait Disk: Reader {
+pub trait Disk: LawfulReader {
     // The disk's own account of each call, as `reads` is of a read.
     ghost writes: { Self → ℕ → Content → Answer Unit → Self → Type 0 };
 

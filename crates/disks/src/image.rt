@@ -4,6 +4,7 @@ ghost use Rattle.disks.specs.Images.{view_of, Sound, Reads, KeepsMeaning};
 ghost use Rattle.disks.specs.ImageLaws.{image_proper, image_reading};
 
 use crate::block::{Block, copy_block, count_blocks};
+use crate::lawful_reader::LawfulReader;
 use crate::reader::Reader;
 use crate::refusal::Refusal;
 use crate::state::State;
@@ -33,10 +34,6 @@ impl<'a> Reader for Image<'a> {
 
     ghost reads = { Reads };
 
-    ghost proper = { λ s snd. image_proper s snd };
-
-    ghost reading = { λ s t k x h snd. image_reading s t k x h snd };
-
     fn size(&self) -> u16 {
         count_blocks(self.bytes)
     }
@@ -56,4 +53,10 @@ impl<'a> Reader for Image<'a> {
         copy_block(self.bytes, block, place);
         Ok(())
     }
+}
+
+impl<'a> LawfulReader for Image<'a> {
+    ghost proper = { λ s snd. image_proper s snd };
+
+    ghost reading = { λ s t k x h snd. image_reading s t k x h snd };
 }

@@ -5,6 +5,7 @@ pub mod block;
 pub mod cause;
 pub mod disk;
 pub mod image;
+pub mod lawful_reader;
 pub mod reader;
 pub mod refusal;
 pub mod side;

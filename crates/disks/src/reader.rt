@@ -1,7 +1,7 @@
 // What can be read, block by block: the trait that images, disks and pairs implement.
 ghost use Rattle.std.specs.Prelude.{◌≡◌, ℕ};
 ghost use Rattle.disks.specs.Values.{state_values};
-ghost use Rattle.disks.specs.Meaning.{View, Shown, shown, Untouched, Proper, Means, ReadMeans, ProperLaw, ReadLaw};
+ghost use Rattle.disks.specs.Meaning.{View, Shown, shown, Untouched, Proper, Means, ReadMeans};
 
 use crate::block::Block;
 use crate::refusal::Refusal;
@@ -34,8 +34,4 @@ pub trait Reader {
         ensures means { Means view sound self.old self.new (λ v w. ReadMeans v block (shown result place.new) w) }
         ensures place { Untouched result place.old place.new }
         ensures proper { sound self.old → Proper (view self.old) × Proper (view self.new) };
-
-    ghost proper: { ProperLaw view sound };
-
-    ghost reading: { ReadLaw view sound reads };
 }

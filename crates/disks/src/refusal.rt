@@ -1,10 +1,9 @@
 // The answers of a reader or a disk that are not done.
 ghost use Rattle.std.specs.Prelude.{◌≡◌, Some};
-ghost use Rattle.disks.specs.Values.{side_number, refusal_values, numbered, meaning_of, TellsApart};
+ghost use Rattle.disks.specs.Values.{refusal_values, numbered, meaning_of, TellsApart};
 ghost use Rattle.disks.specs.Trails.{refusal_under};
 
 use crate::cause::Cause;
-use crate::side::Side;
 use std::fmt;
 
 #[derive(Clone, Copy, Debug, PartialEq, Eq)]
@@ -30,9 +29,20 @@ impl Refusal {
         }
     }
 
+    // Its meaning in words.
+    pub fn meaning(&self) -> &'static str
+        ensures { result.now ≡ meaning_of (refusal_values self.now) }
+    {
+        match self {
+            Refusal::PastEnd => "block at or past the size",
+            Refusal::Dark(_) => "disk dark",
+            Refusal::Lost(_) => "lost: disk dead",
+        }
+    }
+
     // The refusal as the pair gives it whose side the disk is.
-    pub fn under(self, side: Side) -> Refusal
-        ensures { refusal_values result ≡ refusal_under (side_number side) (refusal_values self) }
+    pub fn under(self, side: u8) -> Refusal
+        ensures { refusal_values result ≡ refusal_under side (refusal_values self) }
     {
         match self {
             Refusal::PastEnd => Refusal::PastEnd,
@@ -42,15 +52,10 @@ impl Refusal {
     }
 }
 
-// Its meaning in words.
 impl fmt::Display for Refusal {
     ghost output = { λ e. Some (meaning_of (refusal_values e)) };
 
     fn fmt<W: fmt::Write>(&self, f: &mut fmt::Formatter<W>) -> fmt::Result {
-        f.write_str(match self {
-            Refusal::PastEnd => "block at or past the size",
-            Refusal::Dark(_) => "disk dark",
-            Refusal::Lost(_) => "lost: disk dead",
-        })
+        f.write_str(self.meaning())
     }
 }

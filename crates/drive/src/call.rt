@@ -14,12 +14,14 @@ pub enum DiskCall {
     Restart,
 }
 
+pub const SPACE: u8 = b' ';
+
 // The call that the line asks for; none if it is of no such form.
 #[tactic(auto, using(crate::proofs::Asking::other_call))]
 pub fn parse_call(line: &[u8]) -> Option<DiskCall>
     ensures { result ≡ call_of line.now }
 {
-    let (name, after) = split_first(line, b' ');
+    let (name, after) = split_first(line, SPACE);
     // By `is_word` and not by byte strings in the patterns: of those the proof did not close. A word too many makes no number of the last, since a space is no digit.
     match after {
         None if is_word(name, b"barrier") => Some(DiskCall::Barrier),
@@ -29,7 +31,7 @@ pub fn parse_call(line: &[u8]) -> Option<DiskCall>
             Some(DiskCall::Read(number))
         }
         Some(words) if is_word(name, b"write") => {
-            let (block, byte) = split_first(words, b' ');
+            let (block, byte) = split_first(words, SPACE);
             let number = parse_number(block, u16::MAX)?;
             let fill = parse_number(byte?, 255)?;
             // At most 255.

@@ -10,6 +10,7 @@ ghost use Rattle.odd.specs.Keeping.{dark_proper, at_block, barrier_law, restart_
 use disks::block::Block;
 use disks::cause::{Call, Cause};
 use disks::disk::Disk;
+use disks::lawful_reader::LawfulReader;
 use disks::reader::Reader;
 use disks::refusal::Refusal;
 use disks::state::State;
@@ -40,7 +41,7 @@ impl AlwaysDark {
         ensures { (refusal_values result, self.new) ≡ refuses self.old }
     {
         self.refused = self.refused.saturating_add(1);
-        Refusal::Dark(Cause::at(Call::Restart))
+        Refusal::Dark(Cause::from(Call::Restart))
     }
 
     fn refuse_at(&mut self, block: u16) -> Refusal
@@ -62,10 +63,6 @@ impl Reader for AlwaysDark {
 
     ghost reads = { λ s k x t. Gives x t (refuses_at k s) };
 
-    ghost proper = { λ s snd. dark_proper s snd };
-
-    ghost reading = { λ s t k x h snd. at_block s t snd k _ x _ h };
-
     fn size(&self) -> u16 {
         self.size
     }
@@ -75,12 +72,18 @@ impl Reader for AlwaysDark {
     }
 
     fn state(&self) -> State {
-        State::Dark(Cause::at(Call::Restart))
+        State::Dark(Cause::from(Call::Restart))
     }
 
     fn read(&mut self, block: u16, _place: &mut Block) -> Result<(), Refusal> {
         Err(self.refuse_at(block))
     }
+}
+
+impl LawfulReader for AlwaysDark {
+    ghost proper = { λ s snd. dark_proper s snd };
+
+    ghost reading = { λ s t k x h snd. at_block s t snd k _ x _ h };
 }
 
 impl Disk for AlwaysDark {

@@ -9,7 +9,7 @@ use Rattle.pair.specs.declared.copy.CopyStop.TheVariants.{SourceDied, Ended}
 use Rattle.pair.specs.Calls.{If}
 use Rattle.pair.specs.Restarts.{CopyEnd, barrier_due, CopiesOne, Copied, Copies, CopiesOver}
 
-abbrev IsDead : StateValues → Type 0
+abbrev pub IsDead : StateValues → Type 0
 IsDead On = ⊥
 IsDead (Dark c) = ⊥
 IsDead (Dead c) = Unit {0}

@@ -9,6 +9,7 @@ ghost use Rattle.pair.specs.Reading.{pair_reading};
 
 use disks::block::Block;
 use disks::disk::Disk;
+use disks::lawful_reader::LawfulReader;
 use disks::reader::Reader;
 use disks::refusal::Refusal;
 use disks::state::State;
@@ -26,16 +27,12 @@ pub struct Pair<A, B> {
     joined: bool,
 }
 
-impl<A: Reader, B: Reader> Reader for Pair<A, B> {
+impl<A: LawfulReader, B: LawfulReader> Reader for Pair<A, B> {
     ghost view = { view_of A.Reader B.Reader };
 
     ghost sound = { Sound A.Reader B.Reader };
 
     ghost reads = { Reads A.Reader B.Reader };
-
-    ghost proper = { pair_proper A.Reader.own B.Reader.own A.Reader.proper B.Reader.proper };
-
-    ghost reading = { pair_reading A.Reader.own B.Reader.own A.Reader.reading B.Reader.reading };
 
     fn size(&self) -> u16 {
         self.side0.size()
@@ -58,6 +55,12 @@ impl<A: Reader, B: Reader> Reader for Pair<A, B> {
     }
 }
 
+impl<A: LawfulReader, B: LawfulReader> LawfulReader for Pair<A, B> {
+    ghost proper = { pair_proper A.Reader.own B.Reader.own A.LawfulReader.proper B.LawfulReader.proper };
+
+    ghost reading = { pair_reading A.Reader.own B.Reader.own A.LawfulReader.reading B.LawfulReader.reading };
+}
+
 impl<A: Disk, B: Disk> Disk for Pair<A, B> {
     ghost writes = { Writes A.Reader A.Disk.own B.Reader B.Disk.own };
 
@@ -71,7 +74,7 @@ impl<A: Disk, B: Disk> Disk for Pair<A, B> {
 
     ghost flushing = { pair_flushing A.Reader.own A.Disk.own B.Reader.own B.Disk.own A.Disk.flushing B.Disk.flushing };
 
-    ghost restarting = { pair_restarting A.Reader.own A.Disk.own B.Reader.own B.Disk.own A.Reader.proper A.Reader.reading B.Disk.writing B.Disk.flushing A.Disk.restarting B.Disk.restarting };
+    ghost restarting = { pair_restarting A.Reader.own A.Disk.own B.Reader.own B.Disk.own A.LawfulReader.proper A.LawfulReader.reading B.Disk.writing B.Disk.flushing A.Disk.restarting B.Disk.restarting };
 
     ghost losing = { pair_losing A.Reader.own A.Disk.own B.Reader.own B.Disk.own A.Disk.losing B.Disk.losing };
 

@@ -1,6 +1,6 @@
 // The answers of a pair's making that are not done.
 ghost use Rattle.std.specs.Prelude.{◌≡◌};
-ghost use Rattle.pair.specs.Making.{pair_numbered, PairTellsApart};
+ghost use Rattle.pair.specs.Making.{pair_numbered, pair_meaning, PairTellsApart};
 
 use std::fmt;
 
@@ -31,6 +31,16 @@ impl PairRefusal {
             PairRefusal::TooHigh => 5,
         }
     }
+
+    // Its meaning in words.
+    pub fn meaning(&self) -> &'static str
+        ensures { result.now ≡ pair_meaning self.now }
+    {
+        match self {
+            PairRefusal::UnequalSizes => "pair of unequal sizes",
+            PairRefusal::TooHigh => "a side of height 8 or more",
+        }
+    }
 }
 
 impl fmt::Display for PairRefusal {
@@ -40,9 +50,6 @@ impl fmt::Display for PairRefusal {
     ghost output = { λ x. Some (pair_meaning x) };
 
     fn fmt<W: fmt::Write>(&self, f: &mut fmt::Formatter<W>) -> fmt::Result {
-        f.write_str(match self {
-            PairRefusal::UnequalSizes => "pair of unequal sizes",
-            PairRefusal::TooHigh => "a side of height 8 or more",
-        })
+        f.write_str(self.meaning())
     }
 }

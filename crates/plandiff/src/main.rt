@@ -42,14 +42,11 @@ fn run(rt: &HostRuntime) -> Result<(), Failure> {
     let (old_file, new_file) = file_names(rt)?;
     let old = read_file(rt, old_file.as_str())?;
     let new = read_file(rt, new_file.as_str())?;
-    // Not `try_map_err`: the check has no proof for a closure that is handed a stop here.
-    let text = match compare_images(room, &old, &new) {
-        Ok(comparison) => report(heap, &comparison)?,
-        Err(stop) => {
-            let line = stop_line(heap, old_file.as_str(), new_file.as_str(), &stop)?;
-            return Err(Failure::File(line));
-        }
-    };
+    let comparison = compare_images(room, &old, &new).try_map_err(|stop| {
+        let line = stop_line(heap, old_file.as_str(), new_file.as_str(), &stop)?;
+        Ok(Failure::File(line))
+    })?;
+    let text = report(heap, &comparison)?;
     rt.print(text).map_err(|_| Failure::Output)
 }
 

@@ -1,5 +1,4 @@
 pub mod Dividing
-mod Passing
 mod Reading
 mod Spelling
 mod Scheduling

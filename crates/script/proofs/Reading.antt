@@ -1,40 +1,36 @@
--- Digits, and the number that they write.
-use Rattle.std.proofs.Common.{◌≡◌, ℕ, ◌^◌, ◌<◌, ◌≤◌, true, false, cond, ◌&&◌, leb, List, [], ◌∷◌, length, Some, None, Ok, Err, Result, decimal, refl, ap, ◌∙◌, arith, rules}
+-- Digits, one after another.
+use Rattle.std.proofs.Common.{◌≡◌, ℕ, ◌+◌, ◌-◌, ◌*◌, ◌<◌, ◌≤◌, true, false, cond, ◌&&◌, leb, List, [], ◌∷◌, length, Some, None, decimal, refl, ap, ◌∙◌, arith, rules}
 use Rattle.std.proofs.lemmas.Bool.Decides.{nat_tests}
 use Rattle.std.proofs.lemmas.Fmt.{digits_decimal, digits_value-decimal, decimal_nonempty}
-use Rattle.std.proofs.lemmas.Str.Parse.{IsNumeralModel, numerals_by_value, tells_all_ascii_digits, parse_digits}
-use Rattle.std.specs.Char.{is_ascii_digit}
-use Rattle.std.specs.List.{list_all}
-use Rattle.std.specs.Result.{OkIff, result_ok}
+use Rattle.std.proofs.lemmas.Str.Parse.{IsNumeralModel, numerals_by_value, tells_all_ascii_digits}
+use Rattle.std.specs.Str.Parse.{digits_value, digits_value_after}
+use Rattle.std.specs.Char.{digit_value, is_ascii_digit}
 use Rattle.std.specs.Str.{all_ascii_digits}
-use Rattle.std.specs.Str.Parse.{digits_value, ParsesUnsigned}
-use Rattle.script.specs.Numbers.{number_of, ReadsBack}
+use Rattle.script.specs.Numbers.{number_of, number_after, ReadsBack}
 
-pub digit_small : (b : ℕ) → is_ascii_digit b ≡ true → b < 128
-digit_small b e = grind (arith, nat_tests)
+-- digits never take a number down
+value_ge : (n : ℕ) (ds : List ℕ) → n ≤ digits_value_after 10 n ds
+value_ge n [] = omega arith
+value_ge n (d ∷ ds) = omega (arith, value_ge (n * 10 + digit_value d) ds)
 
--- the library's two words for digits alone
-only_digits : (ds : List ℕ) → all_ascii_digits ds ≡ list_all is_ascii_digit ds
-only_digits [] = refl
-only_digits (d ∷ ds) = ap (λ b. is_ascii_digit d && b) (only_digits ds)
+pub past_limit : (limit n : ℕ) (ds : List ℕ) → limit < n → number_after limit n ds ≡ None
+past_limit limit n ds over =
+    let e : leb (digits_value_after 10 n ds) limit ≡ false = let h = value_ge n ds in search rules in
+    elim (all_ascii_digits ds) as (λ b. cond (b && leb (digits_value_after 10 n ds) limit) (Some (digits_value_after 10 n ds)) None ≡ None) [ true ↦ rw e refl | false ↦ refl ]
+
+pub one_digit : (limit n c : ℕ) (cs : List ℕ) → is_ascii_digit c ≡ true → number_after limit n (c ∷ cs) ≡ number_after limit (n * 10 + (c - 48)) cs
+one_digit limit n c cs e =
+    let d : digit_value c ≡ c - 48 = grind (arith, nat_tests) in
+    rw (e, d) refl
+
+pub no_digit : (limit n c : ℕ) (cs : List ℕ) → is_ascii_digit c ≡ false → number_after limit n (c ∷ cs) ≡ None
+no_digit limit n c cs e = rw e refl
+
+pub at_end : (limit n : ℕ) → n ≤ limit → number_after limit n [] ≡ Some n
+at_end limit n le = let e : leb n limit ≡ true = search rules in rw e refl
 
 own : IsNumeralModel (λ ds. all_ascii_digits ds ≡ true) (digits_value 10)
 own = numerals_by_value (λ ds. all_ascii_digits ds ≡ true) tells_all_ascii_digits
-
--- what the library reads from digits alone is their number, if it fits
-parsed : {E : Type 0} (ds : List ℕ) (r : Result ℕ E) → list_all is_ascii_digit ds ≡ true → ParsesUnsigned 16 10 ds r → OkIff r ((0 < length ds) × (digits_value 10 ds < 2 ^ 16)) (digits_value 10 ds)
-parsed ds r all reads = parse_digits own 16 ds r reads (only_digits ds ∙ all)
-
-past : (limit : ℕ) (ds : List ℕ) → ((0 < length ds) × (digits_value 10 ds < 2 ^ 16) → ⊥) → limit < 2 ^ 16 → None ≡ number_of limit ds
-past limit [] none fits = refl
-past limit (d ∷ ds) none fits =
-    let e : leb (digits_value 10 (d ∷ ds)) limit ≡ false = grind (arith, nat_tests) in
-    rw e (elim (all_ascii_digits (d ∷ ds)) as (λ b. None ≡ cond (b && false) (Some (digits_value 10 (d ∷ ds))) None) [ true ↦ refl | false ↦ refl ])
-
-pub number_past : {E : Type 0} (limit : ℕ) (ds : List ℕ) (r : Result ℕ E) → list_all is_ascii_digit ds ≡ true → limit < 2 ^ 16 → ParsesUnsigned 16 10 ds r →
-    result_ok r ≡ None → None ≡ number_of limit ds
-number_past limit ds (Ok m) all fits reads e = cc
-number_past limit ds (Err f) all fits reads e = past limit ds (parsed ds (Err f) all reads) fits
 
 digits_read : (limit : ℕ) (ds : List ℕ) → 0 < length ds → all_ascii_digits ds ≡ true → digits_value 10 ds ≤ limit → number_of limit ds ≡ Some (digits_value 10 ds)
 digits_read limit [] some all le = absurd (omega arith)

@@ -17,7 +17,11 @@ pub fn tell_read(
     ensures { IfOk result (λ s. string_bytes s ≡ read_line (shown answer place.now)) }
 {
     match answer {
-        Ok(()) => format!(in heap; "0 {}\n", place[0]),
+        Ok(()) => {
+            // Not lent to `format!` in its place: then each read would copy its whole block for it.
+            let first = place[0];
+            format!(in heap; "0 {first}\n")
+        }
         Err(refusal) => tell_refusal(heap, refusal),
     }
 }

@@ -4,6 +4,8 @@ ghost use Rattle.script.specs.Pieces.{lines};
 
 use crate::piece::split_first;
 
+pub const LINE_FEED: u8 = b'\n';
+
 // Takes the first line off, without its line feed, and gives what follows it; nothing if there is no line.
 #[tactic(auto, using(crate::proofs::Dividing::first_line))]
 pub fn split_line(input: &[u8]) -> Option<(&[u8], &[u8])>
@@ -12,6 +14,6 @@ pub fn split_line(input: &[u8]) -> Option<(&[u8], &[u8])>
     if input.is_empty() {
         return None;
     }
-    let (line, after) = split_first(input, b'\n');
+    let (line, after) = split_first(input, LINE_FEED);
     Some((line, after.unwrap_or(&[])))
 }

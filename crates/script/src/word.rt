@@ -1,28 +1,40 @@
 // A word of a schedule as text: 8 hexadecimal digits, with capital letters.
-ghost use Rattle.std.specs.Prelude.{◌≡◌, ◌^◌, ◌<◌, not, ◌&&◌, ◌++◌, MatchOption};
-ghost use Rattle.std.specs.Char.{is_ascii_hexdigit, is_ascii_lowercase};
-ghost use Rattle.std.specs.List.{list_all};
-ghost use Rattle.script.specs.Words.{word_text, TextSays, WordsApart, StartsNoWord};
+ghost use Rattle.std.specs.Prelude.{◌≡◌, ℕ, ◌^◌, ◌<◌, ◌++◌, length, MatchOption, ◌≢◌};
+ghost use Rattle.script.specs.Words.{hex_char, word_text, TextSays, WordsApart, StartsNoWord};
 
 pub const WORD_DIGITS: usize = 8;
 
+fn hex_digit(byte: u8) -> Option<u8>
+    ensures { MatchOption result ((d : ℕ) → d < 16 → byte ≢ hex_char d) (λ d. (d < 16) × (byte ≡ hex_char d)) }
+{
+    match byte {
+        b'0'..=b'9' => Some(byte - b'0'),
+        b'A'..=b'F' => Some(byte - b'A' + 10),
+        _ => None,
+    }
+}
+
 // The word that is written so; none if no word is.
-#[tactic(auto, using(crate::proofs::Spelling::words_apart, crate::proofs::Spelling::other_length_no_word, crate::proofs::Spelling::other_byte_no_word))]
 pub fn parse_word(text: &[u8]) -> Option<u32>
     ensures word { TextSays text.now result }
     ensures law { WordsApart }
 {
-    // `from_str_radix` alone would take small letters, and a plus sign in front.
-    if text.len() != WORD_DIGITS || !is_capital_hex(text) {
+    if text.len() != WORD_DIGITS {
         return None;
     }
-    u32::from_str_radix(str::from_utf8(text).ok()?, 16).ok()
+    read_digits(text)
 }
 
-fn is_capital_hex(text: &[u8]) -> bool
-    ensures { result ≡ list_all (λ b. is_ascii_hexdigit b && not (is_ascii_lowercase b)) text.now }
+fn read_digits(text: &[u8]) -> Option<u32>
+    requires { length text.now ≡ 8 }
+    ensures { TextSays text.now result }
 {
-    text.iter().all(|byte| byte.is_ascii_hexdigit() && !byte.is_ascii_lowercase())
+    let mut word: u32 = 0;
+    for byte in text {
+        let digit = hex_digit(*byte)?;
+        word = word * 16 + u32::from(digit);
+    }
+    Some(word)
 }
 
 // Takes a word off the front of the text; what follows it.

@@ -31,19 +31,25 @@ impl LookRefusal {
             LookRefusal::PastPlan => 12,
         }
     }
+
+    // Its meaning in words.
+    pub fn meaning(&self) -> &'static str
+        ensures { result.now ≡ look_meaning (look_refusal_values self.now) }
+    {
+        match self {
+            LookRefusal::Disk(e) => e.meaning(),
+            LookRefusal::UnfitSize => "size below 34 or above 4,129 blocks",
+            LookRefusal::NoHeader => "header not well formed or N not size - 33",
+            LookRefusal::PastPlan => "address at or past N",
+        }
+    }
 }
 
-// Its meaning in words.
 impl fmt::Display for LookRefusal {
     ghost output = { λ e. Some (look_meaning (look_refusal_values e)) };
 
     fn fmt<W: fmt::Write>(&self, f: &mut fmt::Formatter<W>) -> fmt::Result {
-        match self {
-            LookRefusal::Disk(e) => e.fmt(f),
-            LookRefusal::UnfitSize => f.write_str("size below 34 or above 4,129 blocks"),
-            LookRefusal::NoHeader => f.write_str("header not well formed or N not size - 33"),
-            LookRefusal::PastPlan => f.write_str("address at or past N"),
-        }
+        f.write_str(self.meaning())
     }
 }
 

@@ -61,7 +61,7 @@ fn longer_plans_are_told(rt: HostRuntime) -> Result<(), Fail> {
 
 // A cause with a call and a side, which the lines leave out.
 fn cause() -> Cause {
-    Cause::at(Call::Write(5)).under(PairSide::One)
+    Cause::from(Call::Write(5)).under(PairSide::One.number())
 }
 
 // Each refusal of a look, and its line for the store that `a b` names.

@@ -27,19 +27,37 @@ pub fn low(heap: Global, words0: &[u32], words1: &[u32]) -> Result<Low, Fail> {
 
 // The answer of a pair whose side went dark at the call.
 fn dark(call: Call, side: Side) -> Result<(), Refusal> {
-    Err(Refusal::Dark(Cause::at(call).under(side)))
+    Err(Refusal::Dark(Cause::from(call).under(side.number())))
 }
 
-// A side, the number of empty steps before its event, and the call that meets it. The first restart takes three steps of side 0 and four
-// of side 1, then come a write and a barrier, and the second restart meets the event.
-const RESTART_STEPS: [(Side, u32, Call); 7] = [
-    (Side::Zero, 5, Call::Restart),
-    (Side::Zero, 6, Call::Read(0)),
-    (Side::Zero, 7, Call::Read(1)),
-    (Side::One, 6, Call::Restart),
-    (Side::One, 7, Call::Write(0)),
-    (Side::One, 8, Call::Write(1)),
-    (Side::One, 9, Call::Barrier),
+// Checks an answer by what it tells: its number, and the text of its cause.
+fn check_told(
+    rt: &impl Abort,
+    heap: Global,
+    answer: Result<(), Refusal>,
+    number: u8,
+    text: &str,
+) -> Result<(), Fail> {
+    assert_eq!(rt; number_of(answer), number);
+    let told = match answer {
+        Err(Refusal::Dark(cause)) => format!(in heap; "{cause}")?,
+        Err(Refusal::Lost(cause)) => format!(in heap; "{cause}")?,
+        _ => String::new(heap),
+    };
+    assert_eq!(rt; told.as_str(), text);
+    Ok(())
+}
+
+// A side, the number of empty steps before its event, the call that meets it, and the text of the cause. The first restart takes three steps
+// of side 0 and four of side 1, then come a write and a barrier, and the second restart meets the event.
+const RESTART_STEPS: [(Side, u32, Call, &str); 7] = [
+    (Side::Zero, 5, Call::Restart, "4 0 0"),
+    (Side::Zero, 6, Call::Read(0), "1 0 0"),
+    (Side::Zero, 7, Call::Read(1), "1 1 0"),
+    (Side::One, 6, Call::Restart, "4 0 1"),
+    (Side::One, 7, Call::Write(0), "2 0 1"),
+    (Side::One, 8, Call::Write(1), "2 1 1"),
+    (Side::One, 9, Call::Barrier, "3 0 1"),
 ];
 
 fn with_event(rt: &impl Abort, heap: Global, side: Side, word: u32) -> Result<Low, Fail> {
@@ -62,11 +80,13 @@ fn with_event(rt: &impl Abort, heap: Global, side: Side, word: u32) -> Result<Lo
 
 #[test]
 fn cuts_in_a_restart(rt: HostRuntime) -> Result<(), Fail> {
-    for (side, gap, call) in RESTART_STEPS {
+    for (side, gap, call, text) in RESTART_STEPS {
         for verb in [0x40000000u32, 0x80000000] {
             let mut pair = with_event(&rt, rt.alloc(), side, verb + gap)?;
-            assert_eq!(rt; pair.restart(), dark(call, side));
-            assert_eq!(rt; pair.barrier(), dark(call, side));
+            for answer in [pair.restart(), pair.barrier()] {
+                assert_eq!(rt; answer, dark(call, side));
+                check_told(&rt, rt.alloc(), answer, 2, text)?;
+            }
             play(
                 &rt,
                 &mut pair,
@@ -83,7 +103,7 @@ fn cuts_in_a_restart(rt: HostRuntime) -> Result<(), Fail> {
 
 #[test]
 fn deaths_in_a_restart(rt: HostRuntime) -> Result<(), Fail> {
-    for (side, gap, _) in RESTART_STEPS {
+    for (side, gap, _, _) in RESTART_STEPS {
         let mut pair = with_event(&rt, rt.alloc(), side, 0xC0000000 + gap)?;
         play(
             &rt,
@@ -108,9 +128,11 @@ fn deaths_in_a_restart(rt: HostRuntime) -> Result<(), Fail> {
 fn both_sides_die(rt: HostRuntime) -> Result<(), Fail> {
     let mut pair = low(rt.alloc(), &[0xC0000003], &[0xC0000004])?;
     play(&rt, &mut pair, &[(Call::Restart, 0, 0)]);
-    let lost = Err(Refusal::Lost(Cause::at(Call::Write(1)).under(Side::One)));
-    assert_eq!(rt; pair.write(1, &[7; 512]), lost);
-    assert_eq!(rt; pair.restart(), lost);
+    let lost = Err(Refusal::Lost(Cause::from(Call::Write(1)).under(Side::One.number())));
+    for answer in [pair.write(1, &[7; 512]), pair.restart()] {
+        assert_eq!(rt; answer, lost);
+        check_told(&rt, rt.alloc(), answer, 3, "2 1 1")?;
+    }
     play(
         &rt,
         &mut pair,
@@ -131,9 +153,12 @@ fn trail_of_two_sides(rt: HostRuntime) -> Result<(), Fail> {
         buffered(rt.alloc(), 1024, &[])?,
     )?;
     assert_eq!(rt; pile.height(), 2);
-    let cause = Cause::at(Call::Restart).under(Side::One).under(Side::Zero);
-    assert_eq!(rt; pile.restart(), Err(Refusal::Dark(cause)));
-    assert_eq!(rt; format!(in rt.alloc(); "{cause}")?.as_str(), "4 0 01");
+    let cause = Cause::from(Call::Restart)
+        .under(Side::One.number())
+        .under(Side::Zero.number());
+    let answer = pile.restart();
+    assert_eq!(rt; answer, Err(Refusal::Dark(cause)));
+    check_told(&rt, rt.alloc(), answer, 2, "4 0 01")?;
     assert_eq!(rt; number_of(pile.restart()), 0);
     Ok(())
 }
@@ -201,7 +226,9 @@ fn one_side_dead_at_the_making(rt: HostRuntime) -> Result<(), Fail> {
     let mut dead = plain(rt.alloc(), 512, &[0xC0000000])?;
     play(&rt, &mut dead, &[(Call::Barrier, 0, 3)]);
     let mut pair = join(dead, buffered(rt.alloc(), 512, &[])?)?;
-    assert_eq!(rt; pair.barrier(), Err(Refusal::Dark(Cause::unjoined())));
+    let answer = pair.barrier();
+    assert_eq!(rt; answer, Err(Refusal::Dark(Cause::unjoined())));
+    check_told(&rt, rt.alloc(), answer, 2, "0 0 -")?;
     play(
         &rt,
         &mut pair,

@@ -87,9 +87,13 @@ fn restart_of_a_pile_over_a_pair(rt: HostRuntime) -> Result<(), Fail> {
         for verb in [0x40000000u32, 0x80000000, 0xC0000000] {
             let mut pile = high(rt.alloc(), schedules(bottom, &[verb | gap]))?;
             let cause = match bottom {
-                0 => Cause::at(call).under(Side::Zero).under(Side::Zero),
-                1 => Cause::at(call).under(Side::One).under(Side::Zero),
-                _ => Cause::at(call).under(Side::One),
+                0 => Cause::from(call)
+                    .under(Side::Zero.number())
+                    .under(Side::Zero.number()),
+                1 => Cause::from(call)
+                    .under(Side::One.number())
+                    .under(Side::Zero.number()),
+                _ => Cause::from(call).under(Side::One.number()),
             };
             check(&rt, &mut pile, verb, cause);
         }
@@ -103,9 +107,13 @@ fn restart_of_a_pile_beside_a_pair(rt: HostRuntime) -> Result<(), Fail> {
         for verb in [0x40000000u32, 0x80000000, 0xC0000000] {
             let mut pile = wide(rt.alloc(), schedules(bottom, &[verb | gap]))?;
             let cause = match bottom {
-                0 => Cause::at(call).under(Side::Zero),
-                1 => Cause::at(call).under(Side::Zero).under(Side::One),
-                _ => Cause::at(call).under(Side::One).under(Side::One),
+                0 => Cause::from(call).under(Side::Zero.number()),
+                1 => Cause::from(call)
+                    .under(Side::Zero.number())
+                    .under(Side::One.number()),
+                _ => Cause::from(call)
+                    .under(Side::One.number())
+                    .under(Side::One.number()),
             };
             check(&rt, &mut pile, verb, cause);
         }

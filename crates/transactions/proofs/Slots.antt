@@ -50,10 +50,10 @@ module _ {D : Type 0} (s : StoreValues D) (a : ℕ) (o : Option ℕ) (v : (d : �
   if_not : member a s.opened ≡ false → unwrap_or o 0 ≤ length s.logged
   if_not m = let p = parts 0 in let h = newest_miss (1 + length s.logged) s.opened a (newest 1 s.logged a 0) m in let l = low in omega arith
 
-  slot_old : unwrap_or o 0 ≤ length s.logged → None ≡ open_slot s a
+  pub slot_old : unwrap_or o 0 ≤ length s.logged → None ≡ open_slot s a
   slot_old le = grind (arith, if_open)
 
-  slot_open : length s.logged < unwrap_or o 0 → Some (unwrap_or o 0) ≡ open_slot s a
+  pub slot_open : length s.logged < unwrap_or o 0 → Some (unwrap_or o 0) ≡ open_slot s a
   slot_open lt = grind (arith, if_open, if_not)
 
 -- the newest slot of the table, kept if it is past those of the logged part

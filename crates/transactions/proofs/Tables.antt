@@ -11,7 +11,7 @@ use Rattle.transactions.specs.declared.phase.Phase.{Phase}
 use Rattle.transactions.specs.declared.phase.Phase.TheVariants.{Idle, Open, Down}
 
 -- a header keeps its ranges
-header_in_range : (h : Header) → InRange (header_values h)
+pub header_in_range : (h : Header) → InRange (header_values h)
 header_in_range h = h.in_range
 
 -- the parts of a store's table make up the whole

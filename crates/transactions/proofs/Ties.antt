@@ -17,7 +17,7 @@ use Rattle.store.proofs.Looking.{newest_within, block_within}
 use Rattle.transactions.specs.StoreAnswers.{StoreRefusalValues, Disk, StoreDown, StoreAnswer, by_disk}
 use Rattle.transactions.specs.Stores.{PhaseValues, Idle, Open, Down, StoreValues, on, down, is_down, is_open, first, Passes, start_checks, begin_checks, write_checks, read_checks, ticket_checks, write_block, noting}
 use Rattle.transactions.specs.DiskWork.{formatting}
-use Rattle.transactions.specs.Calls.{after, bare, committed, settled, renewed, formatted, Logs, CommitsIn, Commits, Writes, Reads, Settles, Restarts, Formats}
+use Rattle.transactions.specs.Calls.{after, bare, closed, committed, settled, renewed, formatted, Begins, Abandons, Logs, CommitsIn, Commits, Writes, Reads, Settles, Restarts, Formats}
 use Rattle.transactions.specs.Holding.{Ordered, Tied, Kept, Keeps}
 use Rattle.transactions.proofs.Fair.{Lawful, Fair, done_on, never_past, fair_putting, fair_reading, fair_heading, fair_settling, fair_formatting}
 use Rattle.transactions.proofs.Recovered.{Recovered, recovers_fairly}
@@ -27,7 +27,7 @@ pub made_fit : (size : ℕ) (h : HeaderValues) → Some h ≡ empty_for size →
 made_fit size h e = (grind arith, grind arith)
 
 -- a store that is up and not open has no ticket out
-shut_idle : (p : PhaseValues) (o : Bool) → is_open p ≡ (o && not (is_down p)) → is_down p ≡ false → is_open p ≡ false → o ≡ false
+pub shut_idle : (p : PhaseValues) (o : Bool) → is_open p ≡ (o && not (is_down p)) → is_down p ≡ false → is_open p ≡ false → o ≡ false
 shut_idle Idle o e f g = grind arith
 shut_idle Open o e f g = cc
 shut_idle Down o e f g = cc
@@ -79,6 +79,21 @@ module _ {D : Type 0} (R : Reader.Ghosts D) (W : Disk.Ghosts D) where
   }
   worked x (Err y) m n r t left ord f e is done stopped =
       off r t ord (rw (is, (stopped y).0) f.sound) (rw is (stopped y).1) (λ w. never_past x (R.view m).state (sym (past_end (Err y) (sym e ∙ w)) ∙ f.answer))
+
+  pub begins_kept : (s t : StoreValues D) (r : StoreAnswer Unit) → Ordered t → Begins s r t → Keeps R s r t
+  begins_kept s t r ord w tie =
+      by_checks (first (begin_checks s)) s t r _ (grind arith) tie w
+      (λ p v. undisturbed r tt s t tie ord v.0 (ap (λ (u : StoreValues D). u.disk) v.1) (ap (λ (u : StoreValues D). u.n) v.1) (λ _. grind arith))
+
+  down_closed : (p : PhaseValues) → is_down (closed p) ≡ is_down p
+  down_closed Idle = refl
+  down_closed Open = refl
+  down_closed Down = refl
+
+  pub abandons_kept : (s t : StoreValues D) (r : StoreAnswer Unit) → Ordered t → Abandons s r t → Keeps R s r t
+  abandons_kept s t r ord w tie =
+      by_checks (first (ticket_checks s)) s t r _ (grind arith) tie w
+      (λ p v. undisturbed r tt s t tie ord v.0 (ap (λ (u : StoreValues D). u.disk) v.1) (ap (λ (u : StoreValues D). u.n) v.1) (λ u. sym (down_closed s.phase) ∙ ap (λ (x : StoreValues D). is_down x.phase) (sym v.1) ∙ u))
 
   module _ (laws : Lawful R W) where
     write_within : (s : StoreValues D) (a : ℕ) → InRange (record { n = s.n; log = s.logged ++ s.opened }) → write_block s a < 33 + s.n

@@ -49,24 +49,30 @@ impl StoreRefusal {
             StoreRefusal::LogFull => 13,
         }
     }
+
+    // Its meaning in words.
+    pub fn meaning(&self) -> &'static str
+        ensures { result.now ≡ store_meaning (store_refusal_values self.now) }
+    {
+        match self {
+            StoreRefusal::Disk(e) => e.meaning(),
+            StoreRefusal::UnfitSize => "size below 34 or above 4,129 blocks",
+            StoreRefusal::NoHeader => "header not well formed or N not size - 33",
+            StoreRefusal::StoreDown => "store is down",
+            StoreRefusal::TransactionOpen => "transaction open",
+            StoreRefusal::NoTicket => "no ticket out at this store",
+            StoreRefusal::TicketOut => "format or restart with a ticket out",
+            StoreRefusal::PastPlan => "address at or past N",
+            StoreRefusal::LogFull => "log full",
+        }
+    }
 }
 
-// Its meaning in words.
 impl fmt::Display for StoreRefusal {
     ghost output = { λ e. Some (store_meaning (store_refusal_values e)) };
 
     fn fmt<W: fmt::Write>(&self, f: &mut fmt::Formatter<W>) -> fmt::Result {
-        match self {
-            StoreRefusal::Disk(e) => write!(f, "{e}"),
-            StoreRefusal::UnfitSize => write!(f, "size below 34 or above 4,129 blocks"),
-            StoreRefusal::NoHeader => write!(f, "header not well formed or N not size - 33"),
-            StoreRefusal::StoreDown => write!(f, "store is down"),
-            StoreRefusal::TransactionOpen => write!(f, "transaction open"),
-            StoreRefusal::NoTicket => write!(f, "no ticket out at this store"),
-            StoreRefusal::TicketOut => write!(f, "format or restart with a ticket out"),
-            StoreRefusal::PastPlan => write!(f, "address at or past N"),
-            StoreRefusal::LogFull => write!(f, "log full"),
-        }
+        f.write_str(self.meaning())
     }
 }
 

@@ -1,23 +1,22 @@
 // The sides of a trail, and how it grows from below.
 ghost use Rattle.std.specs.Prelude.{◌≡◌, Some};
-ghost use Rattle.disks.specs.Values.{side_number, trail_values};
+ghost use Rattle.disks.specs.Values.{sides_of};
 ghost use Rattle.disks.specs.Trails.{trail_under};
 ghost use Rattle.disks.specs.Text.{trail_text};
 
 use super::Trail;
-use crate::side::Side;
 use std::fmt;
 
 impl Trail {
-    pub fn sides(&self) -> &[Side]
-        ensures { result.now ≡ self.now }
+    pub fn sides(&self) -> &[u8]
+        ensures { result.now ≡ sides_of self.now }
     {
         &self.sides[..usize::from(self.depth)]
     }
 
     // The side is put before the others; a ninth falls off at the end.
-    pub fn under(self, side: Side) -> Trail
-        ensures { result ≡ trail_under side self }
+    pub fn under(self, side: u8) -> Trail
+        ensures { sides_of result ≡ trail_under side (sides_of self) }
     {
         let [s0, s1, s2, s3, s4, s5, s6, _] = self.sides;
         Trail {
@@ -28,7 +27,7 @@ impl Trail {
 }
 
 impl fmt::Display for Trail {
-    ghost output = { λ t. Some (trail_text (trail_values t)) };
+    ghost output = { λ t. Some (trail_text (sides_of t)) };
 
     // The sides one after another, or a dash.
     fn fmt<W: fmt::Write>(&self, f: &mut fmt::Formatter<W>) -> fmt::Result {
@@ -36,7 +35,7 @@ impl fmt::Display for Trail {
             return f.write_str("-");
         }
         for side in self.sides() {
-            write!(f, "{}", side.number())?;
+            write!(f, "{side}")?;
         }
         Ok(())
     }

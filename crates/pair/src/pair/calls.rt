@@ -22,12 +22,12 @@ impl<A: Reader, B: Reader> Pair<A, B> {
         if !matches!(self.side0.state(), State::Dead(_)) {
             match self.side0.read(block, place) {
                 Err(Refusal::Lost(_)) => {}
-                answer => return answer.map_err(|refusal| refusal.under(Side::Zero)),
+                answer => return answer.map_err(|refusal| refusal.under(Side::Zero.number())),
             }
         }
         self.side1
             .read(block, place)
-            .map_err(|refusal| refusal.under(Side::One))
+            .map_err(|refusal| refusal.under(Side::One.number()))
     }
 }
 

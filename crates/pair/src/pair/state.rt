@@ -17,10 +17,10 @@ impl<A: Reader, B: Reader> Pair<A, B> {
         // A dark side comes before the other side's death, and side 0 before side 1.
         // Side 1's darkness takes two rows, since with `_` or `|` in front of its cause the proof did not close.
         match (self.side0.state(), self.side1.state()) {
-            (State::Dark(cause), _) => State::Dark(cause.under(Side::Zero)),
-            (State::On, State::Dark(cause)) => State::Dark(cause.under(Side::One)),
-            (State::Dead(_), State::Dark(cause)) => State::Dark(cause.under(Side::One)),
-            (State::Dead(_), State::Dead(cause)) => State::Dead(cause.under(Side::One)),
+            (State::Dark(cause), _) => State::Dark(cause.under(Side::Zero.number())),
+            (State::On, State::Dark(cause)) => State::Dark(cause.under(Side::One.number())),
+            (State::Dead(_), State::Dark(cause)) => State::Dark(cause.under(Side::One.number())),
+            (State::Dead(_), State::Dead(cause)) => State::Dead(cause.under(Side::One.number())),
             _ if joined => State::On,
             _ => State::Dark(Cause::unjoined()),
         }

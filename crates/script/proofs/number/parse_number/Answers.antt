@@ -1,15 +1,18 @@
-use Rattle.std.proofs.Common.{sym, ◌∙◌, arith}
-use Rattle.std.specs.Char.{is_ascii_digit}
-use Rattle.script.proofs.Passing.{passing_utf8, utf8_same, utf8_reads}
-use Rattle.script.proofs.Reading.{digit_small, number_past}
+use Rattle.std.proofs.Common.{◌≡◌, ℕ, List, [], ◌∷◌, length, None, refl, ◌∙◌, arith, true-eqb, false-eqb}
+use Rattle.script.specs.Numbers.{number_of, number_after}
+use Rattle.script.proofs.Reading.{reads_back}
 use Rattle.script.proofs.number.parse_number.Goals as goal
 
-pub returns-in_err-ok-clause-value : goal.returns-in_err-ok-clause-value
-returns-in_err-ok-clause-value c =
-    absurd (utf8_reads _ c.args.text.now _ (passing_utf8 is_ascii_digit digit_small c.args.text.now (sym c.if-not-is_decimal.ensures)) c.from_utf8.ensures.cases (sym c.ok.ensures.value ∙ c.in_err-ok.was))
+no_digits : (limit : ℕ) (ds : List ℕ) → length ds ≡ 0 → None ≡ number_of limit ds
+no_digits limit [] e = refl
+no_digits limit (d ∷ ds) e = absurd (omega arith)
 
-pub returns-in_err-number-clause-value : goal.returns-in_err-number-clause-value
-returns-in_err-number-clause-value c =
-    let same = utf8_same _ c.args.text.now _ _ c.from_utf8.ensures.cases (sym c.ok.ensures.value ∙ c.in_ok-ok.was) in
-    let reads = rw same at c.parse.ensures.value.0 in
-    c.from_residual-in_err-number.ensures ∙ number_past c.args.limit c.args.text.now _ (sym c.if-not-is_decimal.ensures) (omega arith) reads (sym c.ok-2.ensures.value ∙ c.in_err-number.was)
+some_digits : (limit : ℕ) (ds : List ℕ) → (length ds ≡ 0 → ⊥) → number_after limit 0 ds ≡ number_of limit ds
+some_digits limit [] e = absurd (e refl)
+some_digits limit (d ∷ ds) e = refl
+
+pub returns-then-is_empty : goal.returns-then-is_empty
+returns-then-is_empty c = record { value = no_digits c.args.limit c.args.text.now (true-eqb _ _ c.if-is_empty.ensures); law = reads_back }
+
+pub returns : goal.returns
+returns c = record { value = c.read_digits.ensures ∙ some_digits c.args.limit c.args.text.now (false-eqb _ _ c.if-is_empty.ensures); law = reads_back }

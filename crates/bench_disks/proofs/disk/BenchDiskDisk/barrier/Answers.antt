@@ -7,7 +7,7 @@ use Rattle.bench_disks.specs.Waiting.{flush}
 use Rattle.bench_disks.proofs.disk.BenchDiskDisk.barrier.Goals as goal
 
 pub returns-clause-steps : goal.returns-clause-steps
-returns-clause-steps g c = c.call.ensures flush (λ after r. search rules) ∙ ap (λ (k : CauseValues). answered tt (called k flush (bench_of g.H.Holding.held c.args.self.now))) c.at.ensures
+returns-clause-steps g c = c.call.ensures flush (λ after r. search rules) ∙ ap (λ (k : CauseValues). answered tt (called k flush (bench_of g.H.Holding.held c.args.self.now))) c.from.ensures
 
 pub returns-clause-means : goal.returns-clause-means
 returns-clause-means g c = λ snd. barrier_law _ _ snd _ (returns-clause-steps g c)

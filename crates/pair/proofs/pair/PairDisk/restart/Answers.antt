@@ -10,5 +10,5 @@ returns g c =
     let steps : Restarts g.A.Reader g.A.Disk g.B.Reader g.B.Disk c.args.self.now (answer_values c.answer.result) _ = elim c.match-matches.branch [ in-On w ↦ search rules | in_default-matches w ↦ search rules ] in
     record {
       steps = steps;
-      means = pair_restarting g.A.Reader g.A.Disk g.B.Reader g.B.Disk g.met.A.Reader.proper g.met.A.Reader.reading g.met.B.Disk.writing g.met.B.Disk.flushing g.met.A.Disk.restarting g.met.B.Disk.restarting _ _ _ steps;
+      means = pair_restarting g.A.Reader g.A.Disk g.B.Reader g.B.Disk g.met.A.LawfulReader.proper g.met.A.LawfulReader.reading g.met.B.Disk.writing g.met.B.Disk.flushing g.met.A.Disk.restarting g.met.B.Disk.restarting _ _ _ steps;
     }

@@ -8,7 +8,7 @@ use Rattle.pair.proofs.pair.PairReader.read.Given
 use Rattle.pair.proofs.pair.PairReader.read.Goals as goal
 
 proper : (g : Given.Over) (p : _) → Sound g.A.Reader g.B.Reader p → Proper (view_of g.A.Reader g.B.Reader p)
-proper g = pair_proper g.A.Reader g.B.Reader g.met.A.Reader.proper g.met.B.Reader.proper
+proper g = pair_proper g.A.Reader g.B.Reader g.met.A.LawfulReader.proper g.met.B.LawfulReader.proper
 
 pub returns-then-block-size-clause-proper : goal.returns-then-block-size-clause-proper
 returns-then-block-size-clause-proper g c snd = (proper g _ snd, proper g _ snd)
@@ -19,7 +19,7 @@ returns-in_err-answer-clause-proper g c snd = (proper g _ snd, proper g _ snd)
 pub returns : goal.returns
 returns g c =
     let steps : Reads g.A.Reader g.B.Reader c.args.self.now c.args.block (shown c.read_living.result c.read_living.new.place) c.read_living.new.self = search rules in
-    let means = pair_reading g.A.Reader g.B.Reader g.met.A.Reader.reading g.met.B.Reader.reading _ _ _ _ steps in
+    let means = pair_reading g.A.Reader g.B.Reader g.met.A.LawfulReader.reading g.met.B.LawfulReader.reading _ _ _ _ steps in
     record {
       steps = steps;
       means = means;

@@ -3,6 +3,7 @@ use Rattle.std.specs.List.{flat_map}
 use Rattle.std.specs.Simd.{first_chunks}
 use Rattle.store.specs.Layout.{HeaderValues, filled, front, pairs, packed, unpacked}
 use Rattle.store.specs.Bits.{bits}
+use Rattle.store.specs.LogValues.{log_of}
 use Rattle.store.specs.Headers.{header_values}
 use Rattle.store.proofs.Bits.{packed_bits}
 use Rattle.store.proofs.Groups.{filling, fill_more, chunks_below, pairs_chunks, all_filled}
@@ -20,7 +21,7 @@ pub loop-g-preserved : goal.loop-g-preserved
 loop-g-preserved c =
     let g = c.loop-g.g in
     let h = c.args.self.now in
-    fill_more pairs (front h.n (length h.log)) c.as_chunks.result.0.now [] g (5 + 3 * g) _ (507 - 3 * g) (507 - 3 * (g + 1)) c.copy_from_slice-in-loop-g.new.self c.loop-g.out c.loop-g.invariant c.loop-g-test.true
+    fill_more pairs (front h.n (length (log_of h.log))) c.as_chunks.result.0.now [] g (5 + 3 * g) _ (507 - 3 * g) (507 - 3 * (g + 1)) c.copy_from_slice-in-loop-g.new.self c.loop-g.out c.loop-g.invariant c.loop-g-test.true
     (c.copy_from_slice-in-loop-g.ensures.after ∙ c.pack_pair.ensures) (omega arith) (omega arith) (omega arith)
 
 -- the loop's end is the packed header

@@ -3,6 +3,7 @@ use Rattle.disks.specs.Meaning.{Content, Whole}
 use Rattle.std.proofs.lemmas.List.{take_all, length-drop}
 use Rattle.std.proofs.lemmas.Bool.Decides.{nat_tests}
 use Rattle.store.specs.Layout.{HeaderValues, n_in, count_in, fields_in, unpacked, OnlyPacking, UnpackedExamples}
+use Rattle.store.specs.LogValues.{log_of}
 use Rattle.store.specs.Bits.{WellFormedExactly}
 use Rattle.store.proofs.Tests.{mark_is, WellFormed, accepted, refused}
 use Rattle.store.proofs.Round.{only, exactly, unpacked_examples}
@@ -49,5 +50,5 @@ returns c =
       rest = grind arith;
     } in
     let n : c.from_be_bytes-layout.result % 4096 + 1 ≡ n_in bs = omega arith in
-    let named : c.in_ok-log.log ≡ take (count_in bs) (fields_in bs) = grind (arith, nat_tests) in
+    let named : log_of c.in_ok-log.log ≡ take (count_in bs) (fields_in bs) = grind (arith, nat_tests) in
     end _ c.told-bytes c.fits-bytes _ (cc (accepted bs f))

@@ -12,4 +12,4 @@ returns-clause-steps g c = grind (arith, common_steps, table_parts c.args.self.n
 pub returns-clause-keeps : goal.returns-clause-keeps
 returns-clause-keeps g c =
     let d = g.met.D.Disk in
-    commits_kept g.D.Reader g.D.Disk (record { proper = g.met.D.Reader.proper; reading = g.met.D.Reader.reading; writing = d.writing; flushing = d.flushing; restarting = d.restarting }) (store_values c.args.self.now) (store_values c.answer.new.self) _ (ordered c.answer.new.self) (returns-clause-steps g c)
+    commits_kept g.D.Reader g.D.Disk (record { proper = g.met.D.LawfulReader.proper; reading = g.met.D.LawfulReader.reading; writing = d.writing; flushing = d.flushing; restarting = d.restarting }) (store_values c.args.self.now) (store_values c.answer.new.self) _ (ordered c.answer.new.self) (returns-clause-steps g c)

@@ -12,7 +12,7 @@ use Rattle.transactions.proofs.plan_store.Store.format.Given.{Over}
 use Rattle.transactions.proofs.plan_store.Store.format.Goals as goal
 
 laws : (g : Over) → Lawful g.D.Reader g.D.Disk
-laws g = let d = g.met.D.Disk in record { proper = g.met.D.Reader.proper; reading = g.met.D.Reader.reading; writing = d.writing; flushing = d.flushing; restarting = d.restarting }
+laws g = let d = g.met.D.Disk in record { proper = g.met.D.LawfulReader.proper; reading = g.met.D.LawfulReader.reading; writing = d.writing; flushing = d.flushing; restarting = d.restarting }
 
 pub returns-in_err-answer-clause-steps : goal.returns-in_err-answer-clause-steps
 returns-in_err-answer-clause-steps g c =
@@ -26,5 +26,8 @@ returns-in_err-answer-clause-steps g c =
 pub returns-in_err-answer-clause-keeps : goal.returns-in_err-answer-clause-keeps
 returns-in_err-answer-clause-keeps g c = formats_kept g.D.Reader g.D.Disk (laws g) _ _ _ (ordered c.answer.new.self) (returns-in_err-answer-clause-steps g c)
 
+pub returns-clause-steps : goal.returns-clause-steps
+returns-clause-steps g c = grind (arith, common_steps, made_fit (g.D.Reader.view c.args.self.now.disk).size (header_values c.in-Some.header))
+
 pub returns-clause-keeps : goal.returns-clause-keeps
-returns-clause-keeps g c = formats_kept g.D.Reader g.D.Disk (laws g) _ _ _ (ordered c.come_up.new.self) (grind (arith, common_steps))
+returns-clause-keeps g c = formats_kept g.D.Reader g.D.Disk (laws g) _ _ _ (ordered c.come_up.new.self) (returns-clause-steps g c)

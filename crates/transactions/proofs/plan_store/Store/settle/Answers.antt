@@ -7,7 +7,7 @@ use Rattle.transactions.proofs.plan_store.Store.settle.Given.{Over}
 use Rattle.transactions.proofs.plan_store.Store.settle.Goals as goal
 
 laws : (g : Over) → Lawful g.D.Reader g.D.Disk
-laws g = let d = g.met.D.Disk in record { proper = g.met.D.Reader.proper; reading = g.met.D.Reader.reading; writing = d.writing; flushing = d.flushing; restarting = d.restarting }
+laws g = let d = g.met.D.Disk in record { proper = g.met.D.LawfulReader.proper; reading = g.met.D.LawfulReader.reading; writing = d.writing; flushing = d.flushing; restarting = d.restarting }
 
 pub returns-in_err-header-clause-keeps : goal.returns-in_err-header-clause-keeps
 returns-in_err-header-clause-keeps g c = settles_kept g.D.Reader g.D.Disk (laws g) _ _ _ (ordered c.answer.new.self) (grind (arith, common_steps))

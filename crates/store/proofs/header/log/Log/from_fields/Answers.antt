@@ -6,4 +6,4 @@ use Rattle.store.proofs.header.log.Log.from_fields.Goals as goal
 pub invariant_of-result : goal.invariant_of-result
 invariant_of-result c =
     let rest = take_all (32 - c.args.count) (drop c.args.count c.args.fields) (simp length-drop (omega arith)) in
-    record { few = omega arith; zeros = filled_log c.args.count c.args.fields (omega arith) (omega arith) cc }
+    record { keeps = record { few = omega arith; zeros = filled_log c.args.count c.args.fields (omega arith) (omega arith) cc } }
