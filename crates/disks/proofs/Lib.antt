@@ -3,3 +3,4 @@ pub mod Blocks
 mod Images
 pub mod Losing
 mod Trails
+mod Lists

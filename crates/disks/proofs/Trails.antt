@@ -6,17 +6,24 @@ use Rattle.std.proofs.lemmas.List.{append-nil, take-append-le, take-replicate}
 use Rattle.disks.specs.Text.{trail_text}
 use Rattle.disks.specs.TrailSides.{filled, KeepsSides}
 
--- the first seven of eight, one by one
+-- eight of a list, one by one
+pub all_eight : {A : Type 0} (z : A) (s : List A) → length s ≡ 8 →
+    slice_index_or s 0 z ∷ slice_index_or s 1 z ∷ slice_index_or s 2 z ∷ slice_index_or s 3 z ∷ slice_index_or s 4 z ∷ slice_index_or s 5 z ∷ slice_index_or s 6 z ∷ slice_index_or s 7 z ∷ [] ≡ s
+all_eight z [] e = absurd (omega (arith, e))
+all_eight z (a ∷ []) e = absurd (omega (arith, e))
+all_eight z (a ∷ b ∷ []) e = absurd (omega (arith, e))
+all_eight z (a ∷ b ∷ c ∷ []) e = absurd (omega (arith, e))
+all_eight z (a ∷ b ∷ c ∷ d ∷ []) e = absurd (omega (arith, e))
+all_eight z (a ∷ b ∷ c ∷ d ∷ x ∷ []) e = absurd (omega (arith, e))
+all_eight z (a ∷ b ∷ c ∷ d ∷ x ∷ f ∷ []) e = absurd (omega (arith, e))
+all_eight z (a ∷ b ∷ c ∷ d ∷ x ∷ f ∷ g ∷ []) e = absurd (omega (arith, e))
+all_eight z (a ∷ b ∷ c ∷ d ∷ x ∷ f ∷ g ∷ h ∷ []) e = refl
+all_eight z (a ∷ b ∷ c ∷ d ∷ x ∷ f ∷ g ∷ h ∷ y ∷ t) e = absurd (omega (arith, e))
+
+-- the first seven of eight
 pub first_seven : {A : Type 0} (z : A) (s : List A) → length s ≡ 8 →
     slice_index_or s 0 z ∷ slice_index_or s 1 z ∷ slice_index_or s 2 z ∷ slice_index_or s 3 z ∷ slice_index_or s 4 z ∷ slice_index_or s 5 z ∷ slice_index_or s 6 z ∷ [] ≡ take 7 s
-first_seven z [] e = absurd (omega (arith, e))
-first_seven z (a ∷ []) e = absurd (omega (arith, e))
-first_seven z (a ∷ b ∷ []) e = absurd (omega (arith, e))
-first_seven z (a ∷ b ∷ c ∷ []) e = absurd (omega (arith, e))
-first_seven z (a ∷ b ∷ c ∷ d ∷ []) e = absurd (omega (arith, e))
-first_seven z (a ∷ b ∷ c ∷ d ∷ x ∷ []) e = absurd (omega (arith, e))
-first_seven z (a ∷ b ∷ c ∷ d ∷ x ∷ f ∷ []) e = absurd (omega (arith, e))
-first_seven z (a ∷ b ∷ c ∷ d ∷ x ∷ f ∷ g ∷ t) e = refl
+first_seven z s e = ap (take 7) (all_eight z s e)
 
 -- the sides l that the code makes of a trail and a side i before it, and their depth m
 module _ (d : ℕ) (ss : List ℕ) (keeps : KeepsSides d ss) (i : ℕ) (l : List ℕ) (m : ℕ) (made : l ≡ i ∷ take 7 ss) (deep : m ≡ min d 7) where

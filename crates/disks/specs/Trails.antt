@@ -11,7 +11,7 @@ abbrev pub unjoined_cause : CauseValues
 unjoined_cause = cause_at 0 0
 
 -- the side put before the trail; a trail has room for eight
-abbrev pub trail_under : ℕ → List ℕ → List ℕ
+abbrev pub trail_under : {A : Type 0} → A → List A → List A
 trail_under i t = take 8 (i ∷ t)
 
 abbrev pub cause_under : ℕ → CauseValues → CauseValues

@@ -1,5 +1,5 @@
 -- Causes, states and answers as plain values: contracts speak of these, and never of how the code packs them.
-use Rattle.std.specs.Prelude.{◌≡◌, ℕ, List, [], ◌∷◌, take, Ok, Err, codes, Result}
+use Rattle.std.specs.Prelude.{◌≡◌, ℕ, ◌==◌, cond, List, [], ◌∷◌, map, take, Option, Some, None, Ok, Err, codes, Result}
 use Rattle.disks.specs.declared.cause.Call.{Call}
 use Rattle.disks.specs.declared.cause.Call.TheVariants.{Read, Write, Barrier, Restart}
 use Rattle.disks.specs.declared.cause.Cause.{Cause}
@@ -29,32 +29,46 @@ pub data RefusalValues : Type 0 where
   IsDark : CauseValues → RefusalValues
   IsLost : CauseValues → RefusalValues
 
--- the number of a call
-abbrev pub call_number : Call → ℕ
-call_number (Read k) = 1
-call_number (Write k) = 2
-call_number Barrier = 3
-call_number Restart = 4
+-- the number of a call, 0 for none
+abbrev pub call_number : Option Call → ℕ
+call_number None = 0
+call_number (Some (Read k)) = 1
+call_number (Some (Write k)) = 2
+call_number (Some Barrier) = 3
+call_number (Some Restart) = 4
 
 -- the block of a read or a write, else 0
-abbrev pub call_block : Call → ℕ
-call_block (Read k) = k
-call_block (Write k) = k
-call_block Barrier = 0
-call_block Restart = 0
+abbrev pub call_block : Option Call → ℕ
+call_block None = 0
+call_block (Some (Read k)) = k
+call_block (Some (Write k)) = k
+call_block (Some Barrier) = 0
+call_block (Some Restart) = 0
 
 -- the number of a side
 abbrev pub side_number : Side → ℕ
 side_number Zero = 0
 side_number One = 1
 
--- the sides of a trail that are in use
-abbrev pub sides_of : Trail → List ℕ
-sides_of t = take t.depth t.sides
+-- the side of a number: 0 is side 0, any other is taken for side 1
+abbrev pub side_of : ℕ → Side
+side_of n = cond (n == 0) Zero One
+
+-- the sides of a trail that are in use, by their numbers
+abbrev pub numbers_of : Trail → List ℕ
+numbers_of t = take t.depth t.sides
+
+-- the sides of a trail
+abbrev pub sides_of : Trail → List Side
+sides_of t = map side_of (numbers_of t)
+
+-- the numbers of sides
+abbrev pub trail_values : List Side → List ℕ
+trail_values t = map side_number t
 
 -- what the code's values say
 abbrev pub cause_values : Cause → CauseValues
-cause_values c = record { call = c.call; block = c.block; trail = sides_of c.trail }
+cause_values c = record { call = c.call; block = c.block; trail = numbers_of c.trail }
 
 abbrev pub state_values : State → StateValues
 state_values state.On = On

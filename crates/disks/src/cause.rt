@@ -30,7 +30,7 @@ pub enum Call {
 impl Call {
     // The number by which a cause and its text name the call, and so a method and no `From`.
     pub fn number(self) -> u8
-        ensures { result ≡ call_number self }
+        ensures { result ≡ call_number (Some self) }
     {
         match self {
             Call::Read(_) => READ,
@@ -42,7 +42,7 @@ impl Call {
 
     // The block that goes with it; 0 for a barrier and a restart.
     pub fn block(self) -> u16
-        ensures { result ≡ call_block self }
+        ensures { result ≡ call_block (Some self) }
     {
         match self {
             Call::Read(block) | Call::Write(block) => block,
@@ -95,7 +95,7 @@ impl Cause {
 
 // As `Cause::at`, by the call.
 impl From<Call> for Cause {
-    ghost from_gives = { λ call cause. cause_values cause ≡ cause_at (call_number call) (call_block call) };
+    ghost from_gives = { λ call cause. cause_values cause ≡ cause_at (call_number (Some call)) (call_block (Some call)) };
 
     fn from(call: Call) -> Cause {
         Cause::at(call.number(), call.block())

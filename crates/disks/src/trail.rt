@@ -1,6 +1,7 @@
 // The way from the top pair of a pile down to one of its disks.
 ghost use Rattle.disks.specs.TrailSides.{KeepsSides};
 
+mod lists;
 mod sides;
 
 // At most eight sides, top pair first, since no disk is higher. An array and not a `Vec`: a cause is copied, and telling it

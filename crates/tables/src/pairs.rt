@@ -7,6 +7,7 @@ use disks::disk::Disk;
 use disks::reader::Reader;
 use disks::refusal::Refusal;
 use disks::side::Side;
+use disks::trail::Trail;
 use pair::pair::Pair;
 use std::alloc::Global;
 use std::process::Abort;
@@ -160,6 +161,27 @@ fn trail_of_two_sides(rt: HostRuntime) -> Result<(), Fail> {
     assert_eq!(rt; answer, Err(Refusal::Dark(cause)));
     check_told(&rt, rt.alloc(), answer, 2, "4 0 01")?;
     assert_eq!(rt; number_of(pile.restart()), 0);
+    Ok(())
+}
+
+// The sides of a trail by name, top first: a ninth falls off, and a number that is no side's is taken for side 1.
+#[test]
+fn sides_of_trails(rt: HostRuntime) -> Result<(), Fail> {
+    assert!(rt; Trail::EMPTY.sides().is_empty());
+    let trail = Trail::EMPTY.under(Side::One.number());
+    assert_eq!(rt; trail.sides(), [Side::One].as_slice());
+    let trail = trail.under(Side::Zero.number());
+    assert_eq!(rt; trail.sides(), [Side::Zero, Side::One].as_slice());
+    let four = Trail::EMPTY.under(1).under(0).under(1).under(1);
+    let nine = four.under(0).under(0).under(1).under(0).under(1);
+    let (zero, one) = (Side::Zero, Side::One);
+    assert_eq!(rt;
+        nine.sides(),
+        [one, zero, one, zero, zero, one, one, zero].as_slice()
+    );
+    let other = trail.under(7);
+    assert_eq!(rt; other.sides(), [one, zero, one].as_slice());
+    assert_eq!(rt; other.numbers(), [7, 0, 1].as_slice());
     Ok(())
 }
 
