@@ -1,46 +1,30 @@
 -- The lists of sides from which a trail lends its own, and sides by their numbers.
-use Rattle.std.proofs.Common.{◌≡◌, ◌≤◌, ℕ, zero, suc, ◌==◌, cond, Bool, true, false, List, [], ◌∷◌, map, slice_index, refl, ap, ◌∙◌, arith}
+use Rattle.std.proofs.Common.{◌≡◌, ◌≤◌, ℕ, zero, suc, ◌==◌, cond, Bool, true, false, List, [], ◌∷◌, ◌++◌, map, slice_index, refl, ap, ◌∙◌, arith}
 use Rattle.disks.specs.Values.{side_of, trail_values}
 use Rattle.disks.specs.declared.side.Side.{Side}
 use Rattle.disks.specs.declared.side.Side.TheVariants.{Zero, One}
 
--- what side 0 gives, and what side 1 gives
-abbrev pub both : {A : Type 0} → (Side → A) → List A
-both f = f Zero ∷ f One ∷ []
+-- lists of lists, n deep
+abbrev pub Deep : ℕ → Type 0
+Deep zero = List Side
+Deep (suc n) = List (Deep n)
 
--- one of the two, by a number, is what that number's side gives
-pub one_given : {A : Type 0} (f : Side → A) (two : List A) (one : A) (n : ℕ) →
-    ((z o : A) → two ≡ z ∷ o ∷ [] → one ≡ cond (n == 0) z o) → two ≡ both f → one ≡ f (side_of n)
-one_given f two one n chosen is = chosen (f Zero) (f One) is ∙ go (n == 0)
+-- all lists that go on after the chosen sides for n more
+abbrev pub lists : (n : ℕ) → List Side → Deep n
+lists zero chosen = chosen
+lists (suc n) chosen = lists n (chosen ++ Zero ∷ []) ∷ lists n (chosen ++ One ∷ []) ∷ []
+
+-- one of the two, by a number, has that number's side chosen too
+pub one_chosen : (n : ℕ) (chosen : List Side) (two : List (Deep n)) (one : Deep n) (k : ℕ) →
+    ((z o : Deep n) → two ≡ z ∷ o ∷ [] → one ≡ cond (k == 0) z o) → two ≡ lists (suc n) chosen → one ≡ lists n (chosen ++ side_of k ∷ [])
+one_chosen n chosen two one k by is = by (after Zero) (after One) is ∙ go (k == 0)
   where
-    go : (b : Bool) → cond b (f Zero) (f One) ≡ f (cond b Zero One)
+    after : Side → Deep n
+    after s = lists n (chosen ++ s ∷ [])
+
+    go : (b : Bool) → cond b (after Zero) (after One) ≡ after (cond b Zero One)
     go true = refl
     go false = refl
-
--- the lists that go on after the sides that are chosen already
-abbrev pub after8 : Side → Side → Side → Side → Side → Side → Side → Side → List Side
-after8 a b c d e f g h = a ∷ b ∷ c ∷ d ∷ e ∷ f ∷ g ∷ h ∷ []
-
-abbrev pub after7 : Side → Side → Side → Side → Side → Side → Side → List (List Side)
-after7 a b c d e f g = both (after8 a b c d e f g)
-
-abbrev pub after6 : Side → Side → Side → Side → Side → Side → List (List (List Side))
-after6 a b c d e f = both (after7 a b c d e f)
-
-abbrev pub after5 : Side → Side → Side → Side → Side → List (List (List (List Side)))
-after5 a b c d e = both (after6 a b c d e)
-
-abbrev pub after4 : Side → Side → Side → Side → List (List (List (List (List Side))))
-after4 a b c d = both (after5 a b c d)
-
-abbrev pub after3 : Side → Side → Side → List (List (List (List (List (List Side)))))
-after3 a b c = both (after4 a b c)
-
-abbrev pub after2 : Side → Side → List (List (List (List (List (List (List Side))))))
-after2 a b = both (after3 a b)
-
-abbrev pub after1 : Side → List (List (List (List (List (List (List (List Side)))))))
-after1 a = both (after2 a)
 
 -- the numbers of sides that numbers below two name are these numbers
 pub numbers_back : (ns : List ℕ) → ((j : ℕ) → slice_index ns j ≤ 1) → trail_values (map side_of ns) ≡ ns

@@ -6,7 +6,7 @@ use Rattle.std.proofs.lemmas.List.{append-nil, take-append-le, take-replicate}
 use Rattle.disks.specs.Text.{trail_text}
 use Rattle.disks.specs.TrailSides.{filled, KeepsSides}
 
--- eight of a list, one by one
+-- a list of eight, one by one
 pub all_eight : {A : Type 0} (z : A) (s : List A) → length s ≡ 8 →
     slice_index_or s 0 z ∷ slice_index_or s 1 z ∷ slice_index_or s 2 z ∷ slice_index_or s 3 z ∷ slice_index_or s 4 z ∷ slice_index_or s 5 z ∷ slice_index_or s 6 z ∷ slice_index_or s 7 z ∷ [] ≡ s
 all_eight z [] e = absurd (omega (arith, e))
